@@ -10,11 +10,12 @@ use Rattle.acs_commit.specs.Strings.{bucket_string, node_string}
 abbrev pub levels : ℕ
 levels = 8
 
+-- the first byte of an id, and 0 of no bytes
 abbrev pub first_byte : List ℕ → ℕ
 first_byte [] = 0
 first_byte (byte ∷ rest) = byte
 
--- the ids of a set that begin with a byte
+-- the ids of a set that begin with the byte b
 abbrev pub bucket : List (List ℕ) → ℕ → List (List ℕ)
 bucket ids b = filter (λ id. nat_eq (first_byte id) b) ids
 
@@ -23,16 +24,17 @@ pub record IsId (id : List ℕ) : Type 0 where
   pub long : length id ≡ 32
   pub first : first_byte id < 256
 
+-- each of these is an id
 abbrev pub AreIds : List (List ℕ) → Type 0
 AreIds [] = Unit {0}
 AreIds (id ∷ ids) = IsId id × AreIds ids
 
--- ids in strictly rising order of their bytes
+-- ids in strictly rising order of their bytes, which is how a set of ids is kept
 pub record IsIdSet (ids : List (List ℕ)) : Type 0 where
   pub rising : IsRising ids
   pub ids_are : AreIds ids
 
--- Sets of ids are kept as sets of names are: in strictly rising order of their bytes.
+-- The set has the id. Sets of ids are kept as sets of names are: in strictly rising order of their bytes.
 abbrev pub has_id : List (List ℕ) → List ℕ → Bool
 has_id = has_party
 
@@ -45,44 +47,44 @@ abbrev pub without_id : List ℕ → List (List ℕ) → List (List ℕ)
 without_id id ids = filter (λ other. not (same_name other id)) ids
 
 module _ (sha : Hashing) where
-  -- The hash at a height above the buckets, counted from the left. At height 0 stand the buckets.
+  -- The hash at a height above the buckets, the one number `at` from the left, counted from 0. At height 0 stand the buckets.
   unfoldable pub hash_at : List (List ℕ) → (height at : ℕ) → List ℕ
   hash_at ids zero at = sha (bucket_string (bucket ids at))
   hash_at ids (suc height) at = sha (node_string (hash_at ids height (2 * at)) (hash_at ids height (2 * at + 1)))
 
-  -- the strings that are hashed for it
+  -- the strings that are hashed for the hash at that height and place
   unfoldable pub strings_at : List (List ℕ) → (height at : ℕ) → List (List ℕ)
   strings_at ids zero at = bucket_string (bucket ids at) ∷ []
   strings_at ids (suc height) at =
       node_string (hash_at ids height (2 * at)) (hash_at ids height (2 * at + 1))
       ∷ (strings_at ids height (2 * at) ++ strings_at ids height (2 * at + 1))
 
--- the hash of the bucket of a byte
+-- the hash of the bucket of the byte b
 abbrev pub bucket_hash : List (List ℕ) → ℕ → List ℕ
 bucket_hash ids b = sha256 (bucket_string (bucket ids b))
 
--- the root of the tree of a set
+-- the root of the tree of a set, to which a participant commits
 unfoldable pub root_of : List (List ℕ) → List ℕ
 root_of ids = hash_at sha256 ids levels 0
 
--- all strings that are hashed for it
+-- all strings that are hashed for the root of a set
 unfoldable pub tree_strings : List (List ℕ) → List (List ℕ)
 tree_strings ids = strings_at sha256 ids levels 0
 
--- whether the hashes of a bucket differ
+-- whether the hashes of the two sets' buckets of the byte b differ
 abbrev pub is_other_bucket : (mine theirs : List (List ℕ)) → ℕ → Bool
 is_other_bucket mine theirs b = not (bytes_eq (bucket_hash mine b) (bucket_hash theirs b))
 
--- the first number that passes a test, of so many from `start` on
+-- The first number that passes a test, of the `count` numbers from `start` on; None where none passes.
 unfoldable pub first_where : (ℕ → Bool) → (start count : ℕ) → Option ℕ
 first_where test start zero = None
 first_where test start (suc count) = if test start then Some start else first_where test (suc start) count
 
--- the first bucket whose hashes differ, where the roots do
+-- The first byte whose buckets' hashes differ, where the roots of the two sets do; None where the roots are equal.
 unfoldable pub first_difference : (mine theirs : List (List ℕ)) → Option ℕ
 first_difference mine theirs = if bytes_eq (root_of mine) (root_of theirs) then None else first_where (is_other_bucket mine theirs) 0 256
 
--- The bucket is the first at which two sets differ in its hash, and so in its ids.
+-- The bucket b is the first at which two sets differ in its hash, and so in its ids.
 pub record FirstDiffers (mine theirs : List (List ℕ)) (b : ℕ) : Type 0 where
   pub within : b < 256
   pub roots : root_of mine ≢ root_of theirs

@@ -50,7 +50,8 @@ fn push_if_shared(
     Ok(())
 }
 
-/// The ids of the contracts among these of which the participant hosts a stakeholder, in their order.
+/// The ids of the contracts in `rows` of which the participant `with` hosts a stakeholder, to confirm for it or only to observe, in the order of the
+/// rows. Err is want of memory.
 pub fn shared_ids(
     alloc: Global,
     topology: &Topology,
@@ -67,7 +68,8 @@ pub fn shared_ids(
     Ok(ids)
 }
 
-/// The tree of the ids of the contracts among these of which the participant hosts a stakeholder.
+/// The tree over the ids of the contracts in `rows` of which the participant `with` hosts a stakeholder; its root is a commitment to them. Err is
+/// want of memory.
 pub fn shared(
     alloc: Global,
     topology: &Topology,

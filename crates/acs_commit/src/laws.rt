@@ -19,7 +19,7 @@ use framed_form::laws::{
     framed_logs_are_one_ledger, framed_reading_is_reading, logs_that_do_not_collide,
 };
 
-/// Two sets of one root are one, or two different strings that are hashed in them have one hash.
+/// Two sets with one root are one set, or two different strings that are hashed in them have one hash.
 pub fn one_root_one_set()
     ensures { OneRootOneSet }
 {}

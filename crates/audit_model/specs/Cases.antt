@@ -14,40 +14,41 @@ use Rattle.audit_model.specs.Rules.{is_wrong_trigger}
 use Rattle.audit_model.specs.declared.why.Why.{Why}
 use Rattle.audit_model.specs.declared.why.Why.TheVariants.{Time, Unframed, Repeated, NoRequest, TooLate, WrongCheck, WrongDecision, WrongTrigger}
 
--- its time doesn't follow that of the last entry
+-- the entry's time doesn't follow that of the last entry of the log `before`
 abbrev pub IsMistimed : (before : List Entry) → Entry → Type 0
 IsMistimed before entry = ¬ FollowsTime entry.message (time_at_end before) entry.time
 
--- it is a request that isn't framed
+-- the message is a request that isn't framed
 abbrev pub IsUnframed : Reading → Message → Type 0
 IsUnframed reading (RequestMessage request) = reading.is_framed request ≡ false
 IsUnframed reading (ResponseMessage response) = ⊥
 IsUnframed reading (VerdictMessage verdict) = ⊥
 IsUnframed reading Tick = ⊥
 
--- it repeats a sender and command, a participant's response to a request, or a verdict on one
+-- whether the message repeats, after the log `before`, a sender and command, a participant's response to a request, or a verdict on one
 abbrev pub is_repeated : (before : List Entry) → Message → Bool
 is_repeated before message = list_any (λ (entry : Entry). is_same message entry.message) before
 
--- the response is to a request of the log that asks its sender
+-- the response is to a request of the log `before` that asks the response's sender
 abbrev pub IsAsked : (before : List Entry) → Response → Type 0
 IsAsked before response = (request : Request) × (request_at before response.request ≡ Some request) × Contains request.confirming response.from
 
--- it is a response to a place without a request, or of a participant that isn't asked there; or a verdict on a place without a request
+-- The message is a response to a place without a request, or of a participant that isn't asked there; or a verdict on a place without a request.
+-- `before` is the log before it.
 abbrev pub AnswersNothing : (before : List Entry) → Message → Type 0
 AnswersNothing before (ResponseMessage response) = ¬ IsAsked before response
 AnswersNothing before (VerdictMessage verdict) = request_at before verdict.request ≡ None
 AnswersNothing before (RequestMessage request) = ⊥
 AnswersNothing before Tick = ⊥
 
--- it is a response or a verdict, later than the decision time
+-- the message is a response or a verdict, with a time later than the decision time of its request in the log `before`
 abbrev pub IsTooLate : Params → (before : List Entry) → Message → (time : ℕ) → Type 0
 IsTooLate params before (ResponseMessage response) time = decision_time_of params before response.request < time
 IsTooLate params before (VerdictMessage verdict) time = decision_time_of params before verdict.request < time
 IsTooLate params before (RequestMessage request) time = ⊥
 IsTooLate params before Tick time = ⊥
 
--- it is a response with other verdicts than those that its sender owes
+-- the message is a response with other verdicts than those that its sender owes by the log `before`
 abbrev pub IsOtherCheck : Reading → Params → (before : List Entry) → Message → Type 0
 IsOtherCheck reading params before (ResponseMessage response) =
     response.verdicts ≢ verdicts_owed reading params response.from (inbox reading response.from (take (suc response.request) before)) response.request
@@ -55,14 +56,14 @@ IsOtherCheck reading params before (VerdictMessage verdict) = ⊥
 IsOtherCheck reading params before (RequestMessage request) = ⊥
 IsOtherCheck reading params before Tick = ⊥
 
--- it is a verdict other than the mediator's decision on the log before it, which may be none
+-- the message is a verdict other than the mediator's decision on the log `before`, which may be none
 abbrev pub IsOtherDecision : Params → (before : List Entry) → Message → Type 0
 IsOtherDecision params before (VerdictMessage verdict) = scan params before verdict.request ≢ Some verdict.decision
 IsOtherDecision params before (ResponseMessage response) = ⊥
 IsOtherDecision params before (RequestMessage request) = ⊥
 IsOtherDecision params before Tick = ⊥
 
--- the entry shows the case, after the log before it
+-- the entry shows this case of not fitting, after the log `before`
 abbrev pub Shows : Standard → (before : List Entry) → Entry → Why → Type 0
 Shows s before entry Time = IsMistimed before entry
 Shows s before entry Unframed = IsUnframed s.reading entry.message
@@ -73,11 +74,11 @@ Shows s before entry WrongCheck = IsOtherCheck s.reading s.params before entry.m
 Shows s before entry WrongDecision = IsOtherDecision s.params before entry.message
 Shows s before entry WrongTrigger = is_wrong_trigger s before entry.message ≡ true
 
--- it shows none
+-- the entry shows no case after the log `before`, so that it fits it
 abbrev pub ShowsNone : Standard → (before : List Entry) → Entry → Type 0
 ShowsNone s before entry = (why : Why) → ¬ Shows s before entry why
 
--- the order of the cases
+-- the order in which the cases are tried: an entry is judged by the first that it shows
 abbrev pub number_of : Why → ℕ
 number_of Time = 1
 number_of Unframed = 2
@@ -88,11 +89,11 @@ number_of WrongCheck = 6
 number_of WrongDecision = 7
 number_of WrongTrigger = 8
 
--- it shows no case before this one
+-- the entry shows no case that is tried before this one
 abbrev pub NoneBefore : Standard → (before : List Entry) → Entry → Why → Type 0
 NoneBefore s before entry why = (other : Why) → number_of other < number_of why → ¬ Shows s before entry other
 
--- this case is the first that the entry shows
+-- this case is the first that the entry shows, after the log `before`
 pub record ShowsFirst (s : Standard) (before : List Entry) (entry : Entry) (why : Why) : Type 0 where
   pub shows : Shows s before entry why
   pub first : NoneBefore s before entry why

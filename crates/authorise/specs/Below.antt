@@ -7,7 +7,8 @@ use Rattle.ledger_terms.specs.Forest.{Forest, roots_of}
 use Rattle.ledger_model.specs.declared.roles.Roles.{Roles}
 use Rattle.ledger_model.specs.Authority.{is_authorised, authorisers_below}
 
--- each direct consequence of the action is authorised by its actors and the signatories of its contract
+-- Whether each direct consequence of the action is authorised by its actors and the signatories of its contract. The first argument gives the roles
+-- of an action; it is true where there are no consequences.
 abbrev pub are_authorised_below : (Action → Roles) → Action → Forest Act → Bool
 are_authorised_below roles action consequences =
     list_all (λ (child : Act). is_authorised roles (authorisers_below roles action) child.action) (roots_of consequences)

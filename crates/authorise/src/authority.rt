@@ -14,9 +14,8 @@ use lang_eval::Checked;
 use ledger_terms::{Action, ActionNode, PartySet};
 use std::alloc::{AllocError, Global};
 
-/// Whether the parties authorise an action that has roles: they have the signatories of a Create, and the actors of an
-/// Exercise, of which there is one at least. The actors of a Fetch have to be exactly the stakeholders among the parties,
-/// of which there is one at least.
+/// Whether the parties `by` authorise an action that has roles: they have the signatories of a Create, and the actors of an Exercise, of which there
+/// is one at least. The actors of a Fetch have to be exactly the stakeholders among `by`, and there is one at least. Err is want of memory.
 pub fn authorised(
     alloc: Global,
     checked: &Checked,
@@ -63,8 +62,8 @@ fn all_authorised(
     Ok(true)
 }
 
-/// Whether each direct consequence of an action is authorised by the action's actors and the signatories of its contract,
-/// where all of them have roles.
+/// Whether each direct consequence of the action at the node's root is authorised by that action's actors and the signatories of its contract. All of
+/// them have roles. It is true where there is no consequence; Err is want of memory.
 pub fn children_authorised(
     alloc: Global,
     checked: &Checked,

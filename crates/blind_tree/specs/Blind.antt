@@ -22,62 +22,69 @@ use Rattle.blind_tree.specs.declared.tree.Tree.{Tree}
 use Rattle.blind_tree.specs.declared.recipient.Recipient.{Recipient}
 use Rattle.blind_tree.specs.declared.recipient.Recipient.TheVariants.{Participant, Mediator}
 
+-- the salt of a leaf of a kind, made from a seed
 abbrev pub salt_of : Hashing → (kind : ℕ) (seed : List ℕ) → List ℕ
 salt_of sha kind seed = sha (leaf_salt_string kind seed)
 
--- the hash of a leaf of a kind, whose salt comes from a seed
+-- the hash of a leaf of a kind with these bytes, whose salt is made from this seed
 abbrev pub digest_of : Hashing → (kind : ℕ) (seed bytes : List ℕ) → List ℕ
 digest_of sha kind seed bytes = sha (leaf_hash_string kind (salt_of sha kind seed) bytes)
 
--- a leaf of a kind with this salt, shown or not
+-- a leaf of a kind with this salt and these bytes: with both of them where it is shown, else with its hash alone
 abbrev pub leaf_with : Hashing → (shows : Bool) (kind : ℕ) (salt bytes : List ℕ) → Leaf
 leaf_with sha shows kind salt bytes = if shows then Plain salt bytes else Blind (sha (leaf_hash_string kind salt bytes))
 
+-- a leaf of a kind with these bytes, whose salt is made from this seed: with salt and bytes where it is shown, else with its hash alone
 abbrev pub leaf_of : Hashing → (shows : Bool) (kind : ℕ) (seed bytes : List ℕ) → Leaf
 leaf_of sha shows kind seed bytes = leaf_with sha shows kind (salt_of sha kind seed) bytes
 
--- the hashes of a view's leaves, and of views side by side
+-- the hash of a view's informees leaf, which has its informees and confirmers
 abbrev pub roles_digest : Hashing → SplitView → List ℕ
 roles_digest sha view = digest_of sha 3 view.first.seed (roles_bytes view)
 
+-- the hash of a view's contents leaf, which has its core
 abbrev pub core_digest : Hashing → SplitView → List ℕ
 core_digest sha view = digest_of sha 4 view.first.seed (core_bytes view)
 
+-- the hash of each of these views side by side, with what stands below it
 abbrev pub hashes_of_views : Hashing → Forest SplitView → List (List ℕ)
 hashes_of_views sha NoRoots = []
 hashes_of_views sha (Root view subviews others) =
     sha (view_hash_string (roles_digest sha view) (core_digest sha view) (hashes_of_views sha subviews)) ∷ hashes_of_views sha others
 
--- What a tree shows of a view. Hidden: its hash alone. Passed: what stands below it. Named: its informees and confirmers too. Whole: its
--- contents too.
+-- What a tree shows of a view. Hidden: its hash alone. Passed: what stands below it. Named: its informees and confirmers too. Whole: its contents too.
 pub data Visibility : Type 0 where
   Hidden : Visibility
   Passed : Visibility
   Named : Visibility
   Whole : Visibility
 
+-- only the view's hash is shown
 abbrev pub is_hidden : Visibility → Bool
 is_hidden Hidden = true
 is_hidden Passed = false
 is_hidden Named = false
 is_hidden Whole = false
 
+-- the view's informees and confirmers are shown
 abbrev pub shows_roles : Visibility → Bool
 shows_roles Hidden = false
 shows_roles Passed = false
 shows_roles Named = true
 shows_roles Whole = true
 
+-- the view's contents are shown
 abbrev pub shows_core : Visibility → Bool
 shows_core Hidden = false
 shows_core Passed = false
 shows_core Named = false
 shows_core Whole = true
 
+-- the views without what is shown of each
 abbrev pub views_shown : Forest (Visibility × SplitView) → Forest SplitView
 views_shown = map_forest (λ (m : Visibility × SplitView). m.1)
 
--- the vertices of views, each with what is shown of it
+-- The vertices of these views, each of which is marked with what is shown of it.
 abbrev pub vertices_shown : Hashing → Forest (Visibility × SplitView) → Vertices
 vertices_shown sha NoRoots = NoVertices
 vertices_shown sha (Root marked subviews others) =
@@ -92,21 +99,21 @@ vertices_shown sha (Root marked subviews others) =
     (vertices_shown sha subviews)
     (vertices_shown sha others)
 
--- one of these views, or of those below them, has a hosted informee
+-- One of these views, or of those below them, has a hosted informee; `hosts` tells which parties are hosted.
 abbrev pub has_sight : (List ℕ → Bool) → Forest SplitView → Bool
 has_sight hosts views = list_any (is_sight hosts) (preorder views)
 
--- one of these views has a hosted informee, those below them not counted
+-- One of these views has a hosted informee; those below them are not counted.
 abbrev pub sees_root : (List ℕ → Bool) → Forest SplitView → Bool
 sees_root hosts NoRoots = false
 sees_root hosts (Root view subviews others) = is_sight hosts view || sees_root hosts others
 
--- What a participant's tree shows of a view: the whole view, if the participant sees it; else what stands below it, if there is a view
--- below it that the participant sees; else its hash alone.
+-- What a participant's tree shows of a view: the whole view, if the participant sees it; else what stands below it, if there is a view below it that
+-- the participant sees; else its hash alone.
 abbrev pub visibility : (sees below : Bool) → Visibility
 visibility sees below = if sees then Whole else (if below then Passed else Hidden)
 
--- each view with what the tree shows of it to who hosts these; `above` tells whether a view above them is seen
+-- Each of these views marked with what its tree shows to a participant that hosts these parties; `above` tells whether it sees a view above them.
 abbrev pub shown_to : (hosts : List ℕ → Bool) (above : Bool) → Forest SplitView → Forest (Visibility × SplitView)
 shown_to hosts above NoRoots = NoRoots
 shown_to hosts above (Root view subviews others) =
@@ -114,7 +121,7 @@ shown_to hosts above (Root view subviews others) =
     (shown_to hosts (above || is_sight hosts view) subviews)
     (shown_to hosts above others)
 
--- what the mediator's tree shows of every view: its informees and confirmers
+-- A view marked with what the mediator's tree shows of every view: its informees and confirmers.
 abbrev pub informees_alone : SplitView → Visibility × SplitView
 informees_alone view = (Named, view)
 
@@ -132,15 +139,16 @@ tree_with sha salts sender shows_requesters transaction marked =
       views = vertices_shown sha marked;
     }
 
--- the tree for a participant that hosts these parties, and is the sender if `sends` says so, of a transaction with these views
+-- The tree for a participant that hosts these parties, of a transaction with these views. `sends` tells whether the participant is the sender.
 abbrev pub tree_to : Hashing → Salts → (sender : List ℕ) → Transaction → Forest SplitView → (hosts : List ℕ → Bool) (sends : Bool) → Tree
 tree_to sha salts sender transaction views hosts sends =
     tree_with sha salts sender (sees_root hosts views || sends) transaction (shown_to hosts false views)
 
+-- the mediator's tree of a transaction with these views
 abbrev pub tree_to_mediator : Hashing → Salts → (sender : List ℕ) → Transaction → Forest SplitView → Tree
 tree_to_mediator sha salts sender transaction views = tree_with sha salts sender false transaction (map_forest informees_alone views)
 
--- the hash of a transaction with these views, which each of its trees has
+-- The root hash of a transaction with these views, which all of its trees have in common.
 abbrev pub digest_with : Hashing → Salts → (sender : List ℕ) → Transaction → Forest SplitView → List ℕ
 digest_with sha salts sender transaction views =
     sha (tree_hash_string
@@ -152,33 +160,36 @@ digest_with sha salts sender transaction views =
 abbrev pub salts_of : Hashing → (seed : List ℕ) → Salts
 salts_of sha seed = record { common = salt_of sha 1 seed; requesters = salt_of sha 2 seed }
 
--- the transaction that was split into views
+-- the transaction that was split into these views
 abbrev pub transaction_of : Views → Transaction
 transaction_of views = record { requesters = views.act_as; ledger_time = views.ledger_time; roots = assembled views.roots }
 
--- the tree of that transaction for a participant, with the salts of its seed
+-- The tree of the transaction that was split into these views, for a participant that hosts these parties. `is_sender` tells whether it is the
+-- sender.
 abbrev pub blind_to : Hashing → Views → (sender : List ℕ) (hosts : List ℕ → Bool) (is_sender : Bool) → Tree
 blind_to sha views sender hosts is_sender =
     tree_to sha (salts_of sha views.seed) sender (transaction_of views) views.roots hosts is_sender
 
+-- the mediator's tree of the transaction that was split into these views, with the salts of its seed
 abbrev pub blind_for_mediator : Hashing → Views → (sender : List ℕ) → Tree
 blind_for_mediator sha views sender =
     tree_to_mediator sha (salts_of sha views.seed) sender (transaction_of views) views.roots
 
+-- whether there is a host and it has this name
 abbrev pub has_name : Option Host → List ℕ → Bool
 has_name None name = false
 has_name (Some host) name = same_name host.name name
 
--- whether the host at an index has this name
+-- whether the host at index p is there and has this name
 abbrev pub is_host_named : List Host → ℕ → List ℕ → Bool
 is_host_named hosts p name = has_name (slice_get hosts p) name
 
--- the tree for a recipient, a participant or the mediator
+-- the tree for a recipient, participant p or the mediator, of the transaction that was split into these views; `sender` is the sender's name
 abbrev pub blind_for : Hashing → Views → (sender : List ℕ) → List Host → Recipient → Tree
 blind_for sha views sender hosts (Participant p) = blind_to sha views sender (hosts_at hosts p) (is_host_named hosts p sender)
 blind_for sha views sender hosts Mediator = blind_for_mediator sha views sender
 
--- the hash of the transaction, which each of these trees has
+-- The root hash that all trees of the transaction have which was split into these views; `sender` is the sender's name.
 abbrev pub transaction_digest : Hashing → Views → (sender : List ℕ) → List ℕ
 transaction_digest sha views sender =
     digest_with sha (salts_of sha views.seed) sender (transaction_of views) views.roots

@@ -9,7 +9,7 @@ use Rattle.blind_tree.specs.declared.vertex.Vertex.TheVariants as vertices
 use Rattle.blind_tree.specs.declared.tree.Tree.{Tree}
 use Rattle.ledger_terms.specs.declared.limits.TheConstants.{MOST_ACTIONS, MOST_ACTION_DEPTH}
 
--- a hash, or a salt and fewer than 2^32 bytes
+-- The leaf is one that bytes can spell: a hash of 32 bytes, or a salt of 32 bytes with fewer than 2^32 bytes.
 abbrev pub IsLeaf : Leaf → Type 0
 IsLeaf (Blind hash) = IsHash hash
 IsLeaf (Plain salt bytes) = IsHash salt × (length bytes < 2 ^ 32)
@@ -20,14 +20,15 @@ nesting NoVertices = 0
 nesting (BlindVertex hash others) = max 1 (nesting others)
 nesting (InnerVertex informees contents subviews others) = max (suc (nesting subviews)) (nesting others)
 
--- leaves and hashes, and at most 64 side by side below each
+-- The vertices are ones that bytes can spell: their leaves and hashes are, and at most 64 stand side by side below each. Of how many stand at the top
+-- and one below another it says nothing.
 abbrev pub AreVertices : Vertices → Type 0
 AreVertices NoVertices = Unit {0}
 AreVertices (BlindVertex hash others) = IsHash hash × AreVertices others
 AreVertices (InnerVertex informees contents subviews others) =
     IsLeaf informees × IsLeaf contents × (count subviews ≤ MOST_ACTIONS) × AreVertices subviews × AreVertices others
 
--- at most 64 side by side and 16 one below another
+-- The tree is one that bytes can spell: its leaves and hashes are, and at most 64 vertices stand side by side and 16 one below another.
 pub record IsTree (tree : Tree) : Type 0 where
   pub common_is : IsLeaf tree.common
   pub requesters_is : IsLeaf tree.requesters
@@ -35,26 +36,25 @@ pub record IsTree (tree : Tree) : Type 0 where
   pub nested : nesting tree.views ≤ MOST_ACTION_DEPTH
   pub vertices : AreVertices tree.views
 
--- fewer than 2^32 bytes
+-- The leaf shows its hash alone, or fewer than 2^32 bytes. Unlike `IsLeaf` this doesn't ask how long hash and salt are, which the code's types tell.
 abbrev pub IsSpellableLeaf : Leaf → Type 0
 IsSpellableLeaf (Blind hash) = Unit {0}
 IsSpellableLeaf (Plain salt bytes) = length bytes < 2 ^ 32
 
--- leaves that have room, and at most 64 side by side below each
+-- Each leaf of these vertices has fewer than 2^32 bytes, and at most 64 vertices stand side by side below each.
 abbrev pub AreSpellable : Vertices → Type 0
 AreSpellable NoVertices = Unit {0}
 AreSpellable (BlindVertex hash others) = AreSpellable others
 AreSpellable (InnerVertex informees contents subviews others) =
     IsSpellableLeaf informees × IsSpellableLeaf contents × (count subviews ≤ MOST_ACTIONS) × AreSpellable subviews × AreSpellable others
 
--- the same of one vertex
+-- The one vertex has room in a spelling: its leaves have fewer than 2^32 bytes, and at most 64 vertices stand side by side below it and below each.
 abbrev pub IsSpellable : Vertex → Type 0
 IsSpellable (vertices.Blind hash) = Unit {0}
 IsSpellable (vertices.Inner informees contents subviews) =
     IsSpellableLeaf informees × IsSpellableLeaf contents × (count subviews ≤ MOST_ACTIONS) × AreSpellable subviews
 
--- What has room in a spelling: leaves of fewer than 2^32 bytes, and vertices of which at most 64 stand side by side and 16 one
--- below another.
+-- A tree that has room in a spelling: its leaves have fewer than 2^32 bytes, and at most 64 vertices stand side by side and 16 one below another.
 pub record IsSpellableTree (tree : Tree) : Type 0 where
   pub common_is : IsSpellableLeaf tree.common
   pub requesters_is : IsSpellableLeaf tree.requesters
@@ -62,7 +62,7 @@ pub record IsSpellableTree (tree : Tree) : Type 0 where
   pub nested : nesting tree.views ≤ MOST_ACTION_DEPTH
   pub vertices : AreSpellable tree.views
 
--- vertices on so many levels at most, which have room in a spelling
+-- The vertices stand on so many levels at most, and each has room in a spelling.
 pub record FitLevels (levels : ℕ) (vertices : Vertices) : Type 0 where
   pub nested : nesting vertices ≤ levels
   pub each : AreSpellable vertices

@@ -9,33 +9,33 @@ use Rattle.view_split.specs.declared.split_view.SplitView.{SplitView}
 use Rattle.view_split.specs.declared.views.Views.{Views}
 use Rattle.blind_tree.specs.Cores.{IsSpellableCore, levels, spell_core}
 
--- of the common leaf: sender and ledger time
+-- the bytes of the common leaf: the sender's name and the ledger time
 abbrev pub common_bytes : List ℕ → ℕ → List ℕ
 common_bytes sender ledger_time = spell_name sender ++ to_be_bytes w64 ledger_time
 
--- of a view's informees leaf: informees and confirmers
+-- the bytes of a view's informees leaf: its informees and its confirmers
 abbrev pub roles_bytes : SplitView → List ℕ
 roles_bytes view = spell_parties view.informees ++ spell_parties view.confirmers
 
--- of a view's contents leaf: its core
+-- the bytes of a view's contents leaf: its core
 abbrev pub core_bytes : SplitView → List ℕ
 core_bytes view = spell_core view.first view.below
 
--- sets of at most 128 names, and a core that has room, with actions on at most 16 levels
+-- The formats have room for the view: sets of at most 128 names, and a core that has room, with actions on at most 16 levels.
 pub record IsSpellableView (view : SplitView) : Type 0 where
   pub informees_are : IsSpellableSet view.informees
   pub confirmers_are : IsSpellableSet view.confirmers
   pub core : IsSpellableCore view.first view.below
   pub nested : levels view.below ≤ 15
 
--- the same of each, and at most 65,536 side by side below each
+-- The formats have room for each of these views and of those below them, and at most 65,536 stand side by side below each.
 abbrev pub AreSpellableViews : Forest SplitView → Type 0
 AreSpellableViews NoRoots = Unit {0}
 AreSpellableViews (Root view subviews others) =
     IsSpellableView view × (trees_count subviews ≤ 65536) × AreSpellableViews subviews × AreSpellableViews others
 
--- What the leaves of a transaction have room for: sets of at most 128 names, actions of which each has a spelling, and in each
--- core at most 63 children of an action and 16 levels. At most 65,536 views stand side by side.
+-- What the leaves of a transaction have room for: sets of at most 128 names, actions of which each has a spelling, and in each core at most 63 children
+-- of an action and 16 levels. At most 65,536 views stand side by side.
 pub record AreSpellable (views : Views) : Type 0 where
   pub requesters : IsSpellableSet views.act_as
   pub few : trees_count views.roots ≤ 65536

@@ -13,17 +13,17 @@ use Rattle.wire_form.specs.Spelling.{spell_action}
 use Rattle.wire_form.specs.Spellable.{IsSpellableAction}
 use Rattle.view_split.specs.declared.split_view.SplitView.{SplitView}
 
--- the bytes of the actions, each with its seed
+-- how many bytes these actions have, each with its seed
 abbrev pub acts_length : Forest Act → ℕ
 acts_length NoRoots = 0
 acts_length (Root act below others) = length act.seed + length (spell_action act.action) + acts_length below + acts_length others
 
--- each action has a spelling
+-- each of these actions has a spelling
 abbrev pub AreSpellableActs : Forest Act → Type 0
 AreSpellableActs NoRoots = Unit {0}
 AreSpellableActs (Root act below others) = IsSpellableAction act.action × AreSpellableActs below × AreSpellableActs others
 
--- at most 64 actions, 16 of them one below another, with at most 32,768 bytes
+-- The actions of a transaction keep its limits: at most 64, 16 of them one below another, with at most 32,768 bytes.
 pub record KeepLimits (roots : Forest Act) : Type 0 where
   pub few : size roots ≤ MOST_ACTIONS
   pub nested : depth roots ≤ MOST_ACTION_DEPTH
@@ -35,19 +35,19 @@ pub record AreFew (parties : List (List ℕ)) : Type 0 where
   pub few : length parties ≤ MOST_PARTIES
   pub names : All IsName parties
 
--- the informees are a set of some of these parties, and the confirmers are some of them
+-- an action's informees are a set of some of these parties, and its confirmers are some of them
 pub record AreAmong (parties : List (List ℕ)) (roles : Roles) : Type 0 where
   pub informees : is_subset roles.informees parties ≡ true
   pub confirmers : is_subset roles.confirmers parties ≡ true
   pub ascend : IsRising roles.informees
 
--- the same of each action
+-- the informees and confirmers of each of these actions are among these parties; the first argument gives an action's roles
 abbrev pub AllAmong : (Action → Roles) → List (List ℕ) → Forest Act → Type 0
 AllAmong roles parties NoRoots = Unit {0}
 AllAmong roles parties (Root act below others) =
     AreAmong parties (roles act.action) × AllAmong roles parties below × AllAmong roles parties others
 
--- the informees and the confirmers of each view are sets of at most 128 parties
+-- The informees and the confirmers of each view are sets of at most 128 parties.
 abbrev pub HaveSets : Forest SplitView → Type 0
 HaveSets NoRoots = Unit {0}
 HaveSets (Root view subviews others) = (IsPartySet view.informees × IsPartySet view.confirmers) × HaveSets subviews × HaveSets others

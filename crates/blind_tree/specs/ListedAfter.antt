@@ -9,6 +9,8 @@ use Rattle.blind_tree.specs.declared.vertex.Vertex.{Vertex}
 use Rattle.blind_tree.specs.declared.vertex.Vertex.TheVariants as vertices
 use Rattle.blind_tree.specs.declared.leaf.Leaf.{Leaf}
 
+-- `so_far`, and behind it the topmost of these vertices that are listed, as `views_listed` reads them. The first vertex is number k below the path
+-- `above`, and `listed` tells which paths are asked for. It is what a loop has at each turn.
 abbrev pub listed_after : (List ℕ → Bool) → List ℕ → ℕ → Vertices → List PlacedView → Result (List PlacedView) WireFault
 listed_after listed above k NoVertices so_far = Ok so_far
 listed_after listed above k (BlindVertex hash others) so_far =
@@ -21,7 +23,8 @@ listed_after listed above k (InnerVertex informees contents subviews others) so_
     else missing)
     else with_read (listed_after listed (above ++ k ∷ []) 0 subviews so_far) (λ more. listed_after listed above (suc k) others more)
 
--- the same of one vertex at a path, by its leaves and those below it
+-- What `listed_after` does with one vertex at this path, given by its two leaves and the vertices below it: `so_far`, and behind it the view where
+-- the path is listed, or else the topmost listed ones below. It is missing where a view below a listed one isn't listed.
 abbrev pub inner_listed : (List ℕ → Bool) → List ℕ → (informees contents : Leaf) → Vertices → List PlacedView → Result (List PlacedView) WireFault
 inner_listed listed path informees contents subviews so_far =
     if listed path
@@ -30,7 +33,7 @@ inner_listed listed path informees contents subviews so_far =
     else missing)
     else listed_after listed path 0 subviews so_far
 
--- whether a vertex stands at what is left of a path below a vertex
+-- whether `rest`, what is left of a path once it has come to this vertex, leads to it or to a vertex below it
 abbrev pub stands_in : Vertex → List ℕ → Bool
 stands_in (vertices.Blind hash) rest = is_end rest
 stands_in (vertices.Inner informees contents subviews) rest = is_end rest || stands_at 0 subviews rest

@@ -13,19 +13,20 @@ use Rattle.blind_tree.specs.declared.leaf.Leaf.{Leaf}
 use Rattle.blind_tree.specs.declared.vertex.Vertex.{Vertex}
 use Rattle.blind_tree.specs.declared.vertex.Vertex.TheVariants as vertices
 
--- the view of a vertex with all below it
+-- The view of a vertex with all views below it. A vertex that shows its hash alone is a fault.
 abbrev pub vertex_read : Vertex → Result View WireFault
 vertex_read (vertices.Blind hash) = Err (Bad 0)
 vertex_read (vertices.Inner informees contents subviews) = view_read informees contents subviews
 
--- all views of vertices, behind those before them
+-- The views so far, and behind them those of these vertices with all below them. It is what a loop has at each turn.
 abbrev pub views_after : Vertices → Forest SplitView → Result (Forest SplitView) WireFault
 views_after NoVertices so_far = Ok so_far
 views_after (BlindVertex hash others) so_far = Err (Bad 0)
 views_after (InnerVertex informees contents subviews others) so_far =
     with_read (view_read informees contents subviews) (λ view. views_after others (join so_far (tree_of view)))
 
--- the topmost views that are opened, behind those before them
+-- The views so far, and behind them the topmost of these vertices that are opened, as `views_opened` reads them. The first vertex is number k below the
+-- path `above`.
 abbrev pub opened_after : List ℕ → ℕ → Vertices → List PlacedView → Result (List PlacedView) WireFault
 opened_after above k NoVertices so_far = Ok so_far
 opened_after above k (BlindVertex hash others) so_far = opened_after above (suc k) others so_far
@@ -34,7 +35,8 @@ opened_after above k (InnerVertex informees contents subviews others) so_far =
     then with_read (view_read informees contents subviews) (λ view. opened_after above (suc k) others (so_far ++ placed (above ++ k ∷ []) view ∷ []))
     else with_read (opened_after (above ++ k ∷ []) 0 subviews so_far) (λ more. opened_after above (suc k) others more)
 
--- the same of one vertex at a path, by its leaves and those below it
+-- What `opened_after` does with one vertex at this path, given by its two leaves and the vertices below it: the views so far, and behind them its
+-- view where both leaves show their bytes, or else the topmost ones opened below it.
 abbrev pub inner_opened : List ℕ → (informees contents : Leaf) → Vertices → List PlacedView → Result (List PlacedView) WireFault
 inner_opened path informees contents subviews so_far =
     if is_open informees contents

@@ -21,11 +21,12 @@ use Rattle.blind_tree.specs.declared.shown_for.OpenedFor.TheVariants.{Mismatch, 
 abbrev pub is_listed : List (List ℕ) → List ℕ → Bool
 is_listed paths path = list_any (bytes_eq path) paths
 
+-- nothing is left of the path
 abbrev pub is_end : List ℕ → Bool
 is_end [] = true
 is_end (step ∷ rest) = false
 
--- a vertex stands at a path below vertices, the first of which is number k
+-- Whether a vertex stands at this path below these vertices, the first of which is number k.
 abbrev pub stands_at : ℕ → Vertices → List ℕ → Bool
 stands_at k NoVertices path = false
 stands_at k (BlindVertex hash others) [] = false
@@ -34,22 +35,23 @@ stands_at k (InnerVertex informees contents subviews others) [] = false
 stands_at k (InnerVertex informees contents subviews others) (step ∷ rest) =
     if nat_eq step k then (is_end rest || stands_at 0 subviews rest) else stands_at (suc k) others (step ∷ rest)
 
--- all of these vertices are listed, the first of which is number k below a path, and all below them
+-- Whether all of these vertices and all below them are listed. The first of them is number k below the path `above`.
 abbrev pub are_listed : (List ℕ → Bool) → List ℕ → ℕ → Vertices → Bool
 are_listed listed above k NoVertices = true
 are_listed listed above k (BlindVertex hash others) = listed (above ++ k ∷ []) && are_listed listed above (suc k) others
 are_listed listed above k (InnerVertex informees contents subviews others) =
     listed (above ++ k ∷ []) && (are_listed listed (above ++ k ∷ []) 0 subviews && are_listed listed above (suc k) others)
 
--- an answer that only want of memory takes the place of
+-- A truth value as the answer of code that may fail for want of memory alone.
 abbrev pub answered : Bool → Result Bool WireFault
 answered b = Ok b
 
--- something that is asked for isn't there
+-- The fault that something which is asked for isn't there. Its place is 0.
 abbrev pub missing : {A : Type 0} → Result A WireFault
 missing = Err (Bad 0)
 
--- The topmost of these vertices that are listed, each read with all below it, which has to be listed too.
+-- The topmost of these vertices that are listed, each read with all below it, which has to be listed too. The first of them is number k below the path
+-- `above`.
 abbrev pub views_listed : (List ℕ → Bool) → List ℕ → ℕ → Vertices → Result (List PlacedView) WireFault
 views_listed listed above k NoVertices = Ok []
 views_listed listed above k (BlindVertex hash others) =
@@ -63,15 +65,16 @@ views_listed listed above k (InnerVertex informees contents subviews others) =
     else with_read (views_listed listed (above ++ k ∷ []) 0 subviews) (λ first.
     with_read (views_listed listed above (suc k) others) (λ rest. Ok (first ++ rest)))
 
--- the requesters, where they are asked for
+-- The requesters that their leaf shows, where they are asked for; None where they aren't.
 abbrev pub requesters_if : Bool → Leaf → Result (Option (List (List ℕ))) WireFault
 requesters_if false leaf = Ok None
 requesters_if true leaf = with_read (read_leaf set_at leaf) (λ (names : List (List ℕ)). Ok (Some names))
 
+-- an opened tree made of its parts; `head` is the sender and the ledger time
 abbrev pub opened_by : List ℕ × ℕ → Option (List (List ℕ)) → List PlacedView → OpenedTree
 opened_by head requesters views = record { sender = head.0; ledger_time = head.1; requesters = requesters; views = views }
 
--- What a tree opens of the views with these paths, and of the requesters where they are asked for.
+-- What a tree opens of the views with these paths, and of the requesters where they are asked for; a fault where one of them isn't shown.
 abbrev pub opened_of_views : (seen : List (List ℕ)) → (requesters : Bool) → Tree → Result OpenedTree WireFault
 opened_of_views seen requesters tree =
     if list_all (stands_at 0 tree.views) seen
@@ -80,15 +83,18 @@ opened_of_views seen requesters tree =
     with_read (views_listed (is_listed seen) [] 0 tree.views) (λ (views : List PlacedView). Ok (opened_by head names views))))
     else missing
 
+-- what was opened, or Missing whatever the fault
 abbrev pub open_or_missing : Result OpenedTree WireFault → OpenedFor
 open_or_missing (Ok opened) = Open opened
 open_or_missing (Err fault) = Missing
 
+-- What a tree that was read opens. It is a Mismatch where it couldn't be read or hasn't this root hash.
 abbrev pub of_tree : (root : List ℕ) (seen : List (List ℕ)) (requesters : Bool) → Result Tree WireFault → OpenedFor
 of_tree root seen requesters (Err fault) = Mismatch
 of_tree root seen requesters (Ok tree) =
     if bytes_eq root (hash_of_root sha256 tree) then open_or_missing (opened_of_views seen requesters tree) else Mismatch
 
--- What bytes open of the views with these paths, where they are a tree with this hash.
+-- What an envelope's bytes open of the views with these paths, and of the requesters where they are asked for, where the bytes are a tree with this
+-- root hash.
 abbrev pub opened_for_root : (root : List ℕ) (seen : List (List ℕ)) (requesters : Bool) (bytes : List ℕ) → OpenedFor
 opened_for_root root seen requesters bytes = of_tree root seen requesters (read_all tree_at bytes)

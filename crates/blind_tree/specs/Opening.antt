@@ -25,24 +25,25 @@ use Rattle.blind_tree.specs.declared.tree.Tree.{Tree}
 use Rattle.blind_tree.specs.declared.view_roles.ViewRoles.{ViewRoles}
 use Rattle.blind_tree.specs.declared.roles_tree.RolesTree.{RolesTree}
 
--- what was read and then what comes of it
+-- Hands what was read on to `go`, which reads further. A fault stays as it is.
 abbrev pub with_read : {A B : Type 0} → Result A WireFault → (A → Result B WireFault) → Result B WireFault
 with_read (Ok x) go = go x
 with_read (Err fault) go = Err fault
 
--- the whole bytes of a leaf
+-- What the whole bytes of a leaf hold, by this reading. A leaf that shows its hash alone is a fault at place 0.
 abbrev pub read_leaf : {A : Type 0} → Reading A → Leaf → Result A WireFault
 read_leaf read (Blind hash) = Err (Bad 0)
 read_leaf read (Plain salt bytes) = read_all read bytes
 
--- of a common leaf: sender and ledger time
+-- the reading of a common leaf's bytes: sender and ledger time
 unfoldable pub head_at : Reading (List ℕ × ℕ)
 head_at = both_at name_at (number_at w64)
 
--- of an informees leaf: informees and confirmers
+-- the reading of an informees leaf's bytes: informees and confirmers
 unfoldable pub roles_at : Reading (List (List ℕ) × List (List ℕ))
 roles_at = both_at set_at set_at
 
+-- the informees and confirmers with the path of their view
 abbrev pub view_roles : List ℕ → List (List ℕ) × List (List ℕ) → ViewRoles
 view_roles path roles = record { path = path; informees = roles.0; confirmers = roles.1 }
 
@@ -54,46 +55,49 @@ roles_listed above k (InnerVertex informees contents subviews others) =
     with_read (read_leaf roles_at informees) (λ roles. with_read (roles_listed (above ++ k ∷ []) 0 subviews) (λ below.
     with_read (roles_listed above (suc k) others) (λ rest. Ok (view_roles (above ++ k ∷ []) roles ∷ (below ++ rest)))))
 
--- what the mediator reads of a tree
+-- What the mediator reads of a tree: its sender, and each view's informees and confirmers.
 abbrev pub informee_tree_of : Tree → Result RolesTree WireFault
 informee_tree_of tree =
     with_read (read_leaf head_at tree.common) (λ head. with_read (roles_listed [] 0 tree.views) (λ views. Ok (record { sender = head.0; views = views })))
 
 -- ---- what a participant opens
 
+-- both leaves of a vertex, the informees leaf and the contents leaf, show their bytes
 abbrev pub is_open : Leaf → Leaf → Bool
 is_open (Plain salt bytes) (Plain salt2 bytes2) = true
 is_open (Plain salt bytes) (Blind hash) = false
 is_open (Blind hash) leaf = false
 
+-- how many bytes a leaf shows
 abbrev pub leaf_length : Leaf → ℕ
 leaf_length (Blind hash) = 0
 leaf_length (Plain salt bytes) = length bytes
 
--- informees and confirmers, and a core
+-- what the two leaves of a view hold: informees and confirmers, and a core
 abbrev pub ViewParts : Type 0
 ViewParts = (List (List ℕ) × List (List ℕ)) × CoreNode
 
+-- the view with these parts and these views below it
 abbrev pub view_of : ViewParts → Forest SplitView → View
 view_of parts below =
     record { root = record { informees = parts.0.0; confirmers = parts.0.1; first = act_of parts.1; below = (parts.1).children }; below = below }
 
--- The leaves of a vertex with so many vertices below it: the informees leaf, then the contents leaf, and then whether its core
--- has as many holes.
+-- What the leaves of a vertex with so many vertices below it hold: first the informees leaf is read, then the contents leaf, and then its core has to
+-- have as many holes, else the fault is at the end of its bytes.
 abbrev pub parts_read : (informees contents : Leaf) (subviews : ℕ) → Result ViewParts WireFault
 parts_read informees contents subviews =
     with_read (read_leaf roles_at informees) (λ roles. with_read (read_leaf core_at contents) (λ core.
     if nat_eq (holes core.children) subviews then Ok (roles, core) else Err (Bad (leaf_length contents))))
 
--- a view without those below it
+-- the view with these parts, without those below it
 abbrev pub own_view : ViewParts → SplitView
 own_view parts = (view_of parts NoRoots).root
 
--- the same, read from the two leaves of a vertex that has so many vertices below it
+-- the view without those below it, read from the two leaves of a vertex that has so many vertices below it; a fault as of `parts_read`
 abbrev pub own_view_read : (informees contents : Leaf) (subviews : ℕ) → Result SplitView WireFault
 own_view_read informees contents subviews = with_read (parts_read informees contents subviews) (λ parts. Ok (own_view parts))
 
--- all the views of vertices side by side, each before those below it
+-- All the views of these vertices and those below them, as trees. A vertex that shows its hash alone is a fault.
 abbrev pub views_read : Vertices → Result (Forest SplitView) WireFault
 views_read NoVertices = Ok NoRoots
 views_read (BlindVertex hash others) = Err (Bad 0)
@@ -101,16 +105,16 @@ views_read (InnerVertex informees contents subviews others) =
     with_read (parts_read informees contents (count subviews)) (λ parts. with_read (views_read subviews) (λ below.
     with_read (views_read others) (λ rest. Ok (join (tree_of (view_of parts below)) rest))))
 
--- a view with all below it
+-- the view of a vertex, by its two leaves and the vertices below it, with all views below it
 abbrev pub view_read : (informees contents : Leaf) → Vertices → Result View WireFault
 view_read informees contents subviews =
     with_read (parts_read informees contents (count subviews)) (λ parts. with_read (views_read subviews) (λ below. Ok (view_of parts below)))
 
+-- a view with its path
 abbrev pub placed : List ℕ → View → PlacedView
 placed path view = record { path = path; view = view }
 
--- The topmost vertices with two plain leaves, each read with all below it, where the first of these vertices is number k below
--- a path.
+-- The topmost vertices with two plain leaves, each read with all below it, where the first of these vertices is number k below a path.
 abbrev pub views_opened : List ℕ → ℕ → Vertices → Result (List PlacedView) WireFault
 views_opened above k NoVertices = Ok []
 views_opened above k (BlindVertex hash others) = views_opened above (suc k) others
@@ -120,12 +124,12 @@ views_opened above k (InnerVertex informees contents subviews others) =
     with_read (views_opened above (suc k) others) (λ rest. Ok (placed (above ++ k ∷ []) view ∷ rest)))
     else with_read (views_opened (above ++ k ∷ []) 0 subviews) (λ first. with_read (views_opened above (suc k) others) (λ rest. Ok (first ++ rest)))
 
--- a leaf that need not be shown
+-- What a leaf holds that need not be shown: None where it shows its hash alone, and a fault where its bytes can't be read.
 abbrev pub read_if_plain : {A : Type 0} → Reading A → Leaf → Result (Option A) WireFault
 read_if_plain read (Blind hash) = Ok None
 read_if_plain read (Plain salt bytes) = with_read (read_all read bytes) (λ x. Ok (Some x))
 
--- what a participant reads of a tree
+-- What a participant reads of a tree: sender, ledger time, the requesters where they are shown, and the views that are opened.
 abbrev pub tree_opened : Tree → Result OpenedTree WireFault
 tree_opened tree =
     with_read (read_leaf head_at tree.common) (λ head. with_read (read_if_plain set_at tree.requesters) (λ requesters.

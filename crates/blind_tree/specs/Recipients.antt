@@ -7,7 +7,7 @@ use Rattle.ledger_terms.specs.declared.host.Host.{Host}
 use Rattle.view_split.specs.declared.split_view.SplitView.{SplitView}
 use Rattle.blind_tree.specs.Blind.{has_sight}
 
--- the sender, and who sees a view
+-- participant p gets a tree: it is the sender, or it sees a view
 abbrev pub is_recipient : List Host → Forest SplitView → (sender p : ℕ) → Bool
 is_recipient hosts views sender p = nat_eq p sender || has_sight (hosts_at hosts p) views
 

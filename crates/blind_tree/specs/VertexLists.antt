@@ -4,20 +4,21 @@ use Rattle.blind_tree.specs.Vertices.{Vertices, NoVertices, BlindVertex, InnerVe
 use Rattle.blind_tree.specs.declared.vertex.Vertex.{Vertex}
 use Rattle.blind_tree.specs.declared.vertex.Vertex.TheVariants.{Blind, Inner}
 
--- a vertex and those after it
+-- the vertex with the others side by side behind it
 abbrev pub with_vertex : Vertex → Vertices → Vertices
 with_vertex (Blind hash) others = BlindVertex hash others
 with_vertex (Inner informees contents subviews) others = InnerVertex informees contents subviews others
 
+-- the vertices that the program has as a list, as definitions see them: side by side, in order
 abbrev pub vertices_of : List Vertex → Vertices
 vertices_of [] = NoVertices
 vertices_of (v ∷ vs) = with_vertex v (vertices_of vs)
 
--- a vertex by itself
+-- the one vertex as vertices side by side, with none behind it
 abbrev pub one_vertex : Vertex → Vertices
 one_vertex v = with_vertex v NoVertices
 
--- how many there are, those below counted
+-- how many vertices there are, those below counted; a measure by which walks over a tree end
 abbrev pub vertex_count : Vertices → ℕ
 vertex_count NoVertices = 0
 vertex_count (BlindVertex hash others) = 1 + vertex_count others

@@ -15,7 +15,8 @@ use crate::vertex::{Vertex, VertexList};
 use ledger_terms::{Bytes, Hash};
 use std::alloc::{AllocError, Global};
 
-/// Whether `root`, which is the hash of `told`, is that of a tree too. What both show alike isn't hashed.
+/// Whether `tree` has the hash `root`, which is the hash of the tree `told`. What both trees show alike isn't hashed, so it costs less than `verify`.
+/// Err is want of memory.
 pub fn verify_beside(
     alloc: Global,
     tree: &Tree,

@@ -17,8 +17,9 @@ use ledger_terms::{Bytes, Exact, Name, Topology};
 use std::alloc::{AllocError, Global};
 use view_split::Views;
 
-/// The tree of a transaction for one recipient (Canton protocol: blinding). `sender` is the name of the participant that
-/// submits it. A participant sees a view where it hosts an informee of it or of a view above it.
+/// The tree of a transaction for one recipient (Canton protocol: blinding). `sender` is the name of the participant that submits the transaction, and
+/// `to` says for whom the tree is. A participant sees a view where it hosts an informee of it or of a view above it; what it doesn't see is there as
+/// a hash alone. Err is want of memory.
 pub fn blind(
     alloc: Global,
     views: &Views,
@@ -33,8 +34,8 @@ pub fn blind(
     cut_for(alloc, &kept, sender, topology, to)
 }
 
-/// The trees of a transaction for several recipients, in their order. Each leaf is spelled and hashed once for all of them,
-/// and each view hashed once.
+/// The trees of a transaction for several recipients, in their order. Each leaf is spelled and hashed once for all of them, and each view hashed
+/// once. `sender` is the name of the participant that submits the transaction. Err is want of memory.
 pub fn blind_all(
     alloc: Global,
     views: &Views,
@@ -53,8 +54,8 @@ pub fn blind_all(
     Ok(trees)
 }
 
-/// The spelling of the tree that a recipient gets of a transaction whose tree is kept with every hash: that of `blind`, which is
-/// not made for it. `sender` is the name with which the tree was kept.
+/// The bytes of the tree that a recipient gets of a transaction, spelled straight from the transaction's tree that is kept with every hash. They are
+/// those of the tree that `blind` makes. `sender` is the name with which the tree was kept, and `to` says for whom the bytes are.
 pub fn spelled_for(
     alloc: Global,
     kept: &KeptTree,

@@ -23,8 +23,8 @@ pub(crate) const LEVELS_MAX: u8 = MOST_ACTION_DEPTH as u8;
 /// The greatest number of vertices side by side.
 pub(crate) const VERTICES_MAX: u16 = MOST_ACTIONS as u16;
 
-/// The tree that the bytes spell. A fault is at the first byte of the first field that can't be read: the count that announces
-/// a vertex on a seventeenth level is such a field, and so are bytes after the tree.
+/// The tree that the bytes spell, all of them. Err names the first byte of the first field that can't be read, or want of memory: the count that
+/// announces a vertex on a seventeenth level is such a field, and so are bytes after the tree.
 pub fn decode_tree(alloc: Global, bytes: &[u8]) -> Result<Tree, WireFault>
     ensures exact { UnlessMemory WireFault.Memory result (read_all tree_at bytes.now) }
     ensures found { IfOk result (λ tree. IsTree tree × (bytes.now ≡ spell_tree tree)) }

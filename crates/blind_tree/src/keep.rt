@@ -24,8 +24,8 @@ const USUAL_CORE: usize = 512;
 /// The same of the other leaves, which spell a few names.
 const USUAL_LEAF: usize = 96;
 
-/// The tree of a transaction with every hash, from which what each recipient gets is spelled or cut: each leaf is spelled and
-/// hashed once for all of them, and each view hashed once. `sender` is the name of the participant that submits it.
+/// The tree of a transaction with every hash, from which what each recipient gets is spelled or cut: each leaf is spelled and hashed once for all of
+/// them, and each view hashed once. `sender` is the name of the participant that submits the transaction. Err is want of memory.
 pub fn keep_tree(alloc: Global, views: &Views, sender: Name) -> Result<KeptTree, AllocError>
     requires { AreSpellable views.now }
     ensures { IfOk result (λ tree. tree ≡ kept_tree sha256 views.now sender) }

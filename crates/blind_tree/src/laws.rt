@@ -46,15 +46,15 @@ ghost use Rattle.blind_tree.specs.Spelling.{spell_tree};
 ghost use Rattle.blind_tree.specs.Reading.{tree_at};
 ghost use Rattle.blind_tree.specs.Agreement.{AgreeTrees, Clash, IsSized};
 
-/// Each tree has one spelling, and no spelling of a tree begins that of another.
+/// Each tree has one spelling, no spelling of a tree begins that of another, and each tree that can be read can be written.
 pub fn one_spelling()
     ensures spelled { HasOneSpelling spell_tree IsTree tree_at }
     ensures none_begins { NoneBeginsAnother spell_tree IsTree }
     ensures encoded { IsEnoughFor IsTree IsSpellableTree }
 {}
 
-/// Each leaf has one spelling of its kind: the bytes that are read as what it holds are the spelling of that, which is read as
-/// it.
+/// Each kind of leaf has one spelling of what it holds: the bytes that are read as sender and ledger time, requesters, roles or a core are the
+/// spelling of that, which is read as it.
 pub fn leaves_have_one_spelling()
     ensures common { HasOneSpelling spell_common IsCommon head_at }
     ensures requesters { HasOneSpelling spell_parties IsPartySet set_at }
@@ -79,8 +79,8 @@ pub fn blinding_keeps_the_root()
     ensures sized { (views : Views) (sender : List ℕ) (hosts : List Host) (to : Recipient) → IsSized (blind_for sha256 views sender hosts to) }
 {}
 
-/// The words for who sees what tell one thing: a tree shows contents at the paths that the ledger's rules name, and somebody sees a
-/// view, or a root view, where one of these is a path, or the path of a root.
+/// The definitions of who sees what agree: a tree shows contents at just the paths that the ledger's rules name, a participant sees some view where
+/// the rules name a path, and a root view where they name the path of a root.
 pub fn sight_is_that_of_the_rules()
     ensures paths { (roles : Action → Roles) (hosts : List ℕ → Bool) (roots : Forest Act)
         → paths_seen hosts false [] 0 (split roles roots) ≡ seen_paths roles hosts roots }
@@ -99,13 +99,13 @@ pub fn recipients_are_the_sender_and_who_sees()
         → is_host_named hosts p name ≡ nat_eq p sender }
 {}
 
-/// Of what is shown whole every view is read.
+/// Of vertices that show their views whole, all these views are read back.
 pub fn views_shown_whole_are_read()
     ensures { (hosts : List ℕ → Bool) (views : Forest SplitView) → AreViews views → AreFilled views
         → views_read (vertices_shown sha256 (shown_to hosts true views)) ≡ Ok views }
 {}
 
-/// Each view of an opened tree has as many holes as views stand directly below it.
+/// In an opened tree each view has as many holes in its core as views stand directly below it.
 pub fn opened_views_are_filled()
     ensures { (tree : Tree) (opened : OpenedTree) → tree_opened tree ≡ Ok opened
         → AreFilled (map_forest (λ (v : List ℕ × SplitView). v.1) (placed_forest opened.views)) }
@@ -117,7 +117,7 @@ pub fn opened_views_are_spellable()
         → All (λ (placed : PlacedView). AreSpellableViews (tree_of placed.view)) opened.views }
 {}
 
-/// The instance of each action that is opened can be encoded, so that its contract's id can be told.
+/// The instance of each action that an opened tree shows can be encoded, so that its contract's id can be made of it.
 pub fn opened_actions_are_spellable()
     ensures { (tree : Tree) (opened : OpenedTree) → IsNarrow tree.views → tree_opened tree ≡ Ok opened
         → All (λ (act : Act). IsSpellableInstance (instance_of act.action)) (acts (put_back (placed_forest opened.views))) }
@@ -137,8 +137,8 @@ pub fn blinded_trees_are_spellable()
         → IsSpellableTree (blind_for sha256 views sender hosts to) }
 {}
 
-/// What a participant's tree opens are the topmost views that it sees, with all below them, where each view's holes are the
-/// views below it; and what the mediator's tells are the informees and confirmers of every view.
+/// What a participant's tree opens are the topmost views that it sees, with all below them, where each view has as many holes as views directly below
+/// it; and what the mediator's tree tells are the informees and confirmers of every view.
 pub fn trees_open_what_is_seen()
     ensures participants { (views : Views) (sender : List ℕ) (hosts : List ℕ → Bool) (is_sender : Bool) → AreInRange sender views → AreFilled views.roots
         → tree_opened (blind_to sha256 views sender hosts is_sender)

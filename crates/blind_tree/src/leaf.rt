@@ -13,7 +13,8 @@ pub enum Leaf {
     Plain { salt: Hash, bytes: Bytes },
 }
 
-/// The hash of a leaf of that kind: 1 common, 2 requesters, 3 informees, 4 contents.
+/// The hash of a leaf of that kind (1 common, 2 requesters, 3 informees, 4 contents): the one that a blind leaf shows, or that of a plain leaf's salt
+/// and bytes.
 pub fn hash_of(kind: u8, leaf: &Leaf) -> Hash
     ensures { result ≡ hash_of_leaf sha256 kind leaf.now }
 {

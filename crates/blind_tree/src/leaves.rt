@@ -13,7 +13,8 @@ use ledger_terms::{Bytes, Name, PartySet};
 use std::alloc::Global;
 use wire_form::{Reader, ReaderFault, WireFault};
 
-/// Sender and ledger time of a common leaf.
+/// The sender's name and the ledger time, in microseconds, that a common leaf shows. Err where the leaf is blind, at place 0, or where its bytes
+/// aren't one spelling of both, at the place of the first byte that can't be read.
 pub fn read_head(leaf: &Leaf) -> Result<(Name, u64), WireFault>
     ensures { Follows WireFault.Memory result (read_leaf head_at leaf.now) }
 {

@@ -21,12 +21,11 @@ use std::alloc::Global;
 use view_split::{CoreNode, OpenedTree, PlacedView, PlacedViewList, SplitView, View, ViewList};
 use wire_form::WireFault;
 
-/// What a participant reads in its tree: sender, ledger time, the requesters where they are shown, and the topmost views that
-/// are shown, with all below them. It reads the common leaf, the requesters leaf where that is plain, and then, from the left,
-/// each topmost vertex whose two leaves are plain, with every vertex below it: first its informees leaf, then its contents leaf.
-/// Faults are a leaf that isn't plain or isn't one spelling of its kind, a blind vertex below such a vertex, and a core that
-/// hasn't as many holes as its vertex has subviews. The place is that in the leaf's bytes, the number of those bytes where the
-/// holes differ, and 0 where there are no bytes.
+/// What a participant reads in its tree: sender, ledger time, the requesters where they are shown, and the topmost views that are shown, with all
+/// below them. It reads the common leaf, the requesters leaf where that is plain, and then, from the left, each topmost vertex whose two leaves are
+/// plain, with every vertex below it: first its informees leaf, then its contents leaf. Err names the first fault: a leaf that isn't plain or isn't
+/// one spelling of its kind, a blind vertex below such a vertex, or a core that hasn't as many holes as its vertex has subviews. The place is that in
+/// the leaf's bytes, the number of those bytes where the holes differ, and 0 where there are no bytes.
 pub fn opened(alloc: Global, tree: &BlindTree) -> Result<OpenedTree, WireFault>
     requires { IsNarrow tree.now.views }
     ensures { Follows WireFault.Memory result (tree_opened tree.now) }
@@ -132,8 +131,8 @@ fn view_with(informees: PartySet, confirmers: PartySet, core: CoreNode) -> Split
     }
 }
 
-/// The view that the two leaves of a vertex show. The vertices below it aren't read: it is only tried that there are as many of them
-/// as the view's core has holes. Faults are those of `opened`.
+/// The view that the two leaves of a vertex show. The vertices below it aren't read: it is only tried that there are as many of them as the view's
+/// core has holes. Err names the place of the first fault, as `opened` does for a whole tree.
 pub fn own_view(
     alloc: Global,
     informees: &Leaf,

@@ -27,8 +27,8 @@ use std::alloc::{AllocError, Global};
 use view_split::{OpenedTree, PlacedViewList};
 use wire_form::WireFault;
 
-/// What bytes open to a participant that sees the views with these paths, and the requesters too if `requesters` says so; or that they are
-/// no tree whose hash is `root`, or lack something of it. Anybody may have made the bytes.
+/// What bytes open to a participant that sees the views with the paths `seen`, and the requesters too if `requesters` says so. Mismatch: they are no
+/// tree whose hash is `root`. Missing: something that is asked for can't be read in it. Anybody may have made the bytes; Err is want of memory.
 pub fn opened_for(
     alloc: Global,
     bytes: &[u8],
@@ -49,7 +49,8 @@ pub fn opened_for(
     open_tree(alloc, &tree, seen, requesters)
 }
 
-/// The same, beside another tree whose hash is `root`. What both show alike isn't hashed.
+/// What `opened_for` answers of the bytes, with less hashing: `told` is another tree whose hash is `root`, as the mediator's, and what both trees
+/// show alike isn't hashed.
 pub fn opened_beside(
     alloc: Global,
     bytes: &[u8],

@@ -13,7 +13,7 @@ use hash_id::{tree_hash, view_hash};
 use ledger_terms::Hash;
 use std::alloc::{AllocError, Global};
 
-/// The hash of a tree: the same whatever the tree shows.
+/// The root hash of a tree: all trees of one transaction have the same, whatever each shows. Err is want of memory.
 pub fn root_of(alloc: Global, tree: &Tree) -> Result<Hash, AllocError>
     requires { IsNarrow tree.now.views }
     ensures { IfOk result (λ hash. hash ≡ hash_of_root sha256 tree.now) }
@@ -25,7 +25,7 @@ pub fn root_of(alloc: Global, tree: &Tree) -> Result<Hash, AllocError>
     Ok(tree_hash(&common, &requesters, views.as_slice()))
 }
 
-/// Whether `root` is the hash of a tree.
+/// Whether `root` is the root hash of a tree. Err is want of memory.
 pub fn verify(alloc: Global, tree: &Tree, root: &Hash) -> Result<bool, AllocError>
     requires { IsNarrow tree.now.views }
     ensures { IfOk result (λ same. Decides same (root.now ≡ hash_of_root sha256 tree.now)) }

@@ -24,7 +24,8 @@ use wire_form::{is_spellable_action, is_spellable_set};
 // The greatest number of views side by side: a step of a path has two bytes.
 const VIEWS_MAX: usize = 65536;
 
-/// Whether a transaction can be blinded. Then what its trees show can be read again, whoever sends it.
+/// Whether a transaction can be blinded: the counts and lengths of its views and leaves have room in their spellings. Then what its trees show can be
+/// read again, whoever sends it.
 pub fn are_spellable(views: &Views) -> bool
     ensures exact { IsTrue result ↔ AreSpellable views.now }
     ensures in_range { (sender : List ℕ) → IsName sender → IsTrue result → AreInRange sender views.now }
@@ -140,7 +141,7 @@ fn is_nested_child(child: &CoreChild, most: u8) -> bool
     }
 }
 
-/// Whether a tree can be written. Then it can also be hashed and opened.
+/// Whether a tree can be written: its counts, lengths and levels have room in a spelling. Then it can also be hashed and opened.
 pub fn is_spellable(tree: &Tree) -> bool
     ensures exact { IsTrue result ↔ IsSpellableTree tree.now }
     ensures narrow { IsTrue result → IsNarrow tree.now.views }

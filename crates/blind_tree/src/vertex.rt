@@ -47,7 +47,7 @@ impl Model for VertexList {
 }
 
 impl VertexList {
-    /// No vertices.
+    /// The list without vertices.
     pub fn new(alloc: Global) -> VertexList
         ensures { result ≡ NoVertices }
     {

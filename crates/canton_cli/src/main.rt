@@ -1,4 +1,4 @@
-//! A Canton synchroniser with its participants in one process: reads a script and writes the report of its run.
+//! The program: a Canton synchroniser with its participants in one process, which does what its words ask for and ends with a status.
 #![tactic(auto)]
 
 use canton_run::{Finish, Platform, ended, line, run, status_without_words, words_after_name};
@@ -16,13 +16,13 @@ use std::sync::Wait;
 use std::thread::Threads;
 use std::{env, io};
 
-/// The words after the program's name.
+/// The words of the command line after the program's name.
 fn words_of(rt: &HostRuntime) -> io::Result<WordList> {
     let all: Vec<String> = env::args(rt)?.collect(rt.alloc())?;
     Ok(words_after_name(rt.alloc(), all.as_slice())?)
 }
 
-/// Runs the words, with the choices that are written in Rattle, and with rules that flash notes.
+/// Does what the words ask for, with the choices that are written in Rattle, and with rules that flash a note whose text is `go`.
 fn run_words<R: Threads + Wait + Sync + RandomSource + AllocGlobal, S: Source, K: Sink>(
     rt: &R,
     alloc: Global,
@@ -40,7 +40,7 @@ fn run_words<R: Threads + Wait + Sync + RandomSource + AllocGlobal, S: Source, K
     Ok(run(&platform, words, source, sink, natives, rule))
 }
 
-/// What the words ask for, where they and the natives can be had.
+/// The end of what the words ask for; where they or the natives can't be had, an end with a status alone.
 fn finish_of<R: Threads + Wait + Sync + RandomSource + AllocGlobal, S: Source, K: Sink>(
     rt: &R,
     alloc: Global,
@@ -57,7 +57,7 @@ fn finish_of<R: Threads + Wait + Sync + RandomSource + AllocGlobal, S: Source, K
     }
 }
 
-/// Writes the line for an end with another status than 0.
+/// Writes the line that says why, on standard error, for an end with another status than 0.
 fn tell(rt: &HostRuntime, finish: &Finish) {
     if finish.status != 0 {
         let _ = match line(rt.alloc(), finish) {

@@ -1,6 +1,6 @@
 //! What is drawn.
 
-/// With these names begin the help of each drawing and the lines of its faults.
+/// The names of the drawings, with which their help and the lines of their faults begin.
 pub(crate) const CHART: &str = "canton_chart";
 
 pub(crate) const VIEWS: &str = "canton_views";
@@ -16,7 +16,7 @@ pub(crate) enum Drawing {
 }
 
 impl Drawing {
-    /// The drawing that a word names.
+    /// The drawing that a word names. None: it names none.
     pub(crate) fn named(word: &[u8]) -> Option<Drawing> {
         match word {
             b"chart" => Some(Drawing::Chart),
@@ -26,6 +26,7 @@ impl Drawing {
         }
     }
 
+    /// The name of the drawing, with which its help and the lines of its faults begin.
     pub(crate) fn name(self) -> &'static str {
         match self {
             Drawing::Chart => CHART,

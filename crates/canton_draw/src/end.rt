@@ -7,7 +7,7 @@ use report_read::ReportFault;
 use script_read::ScriptFault;
 use std::alloc::AllocError;
 
-/// How the program ends: its status, and the fault where there is more to say.
+/// How the program ends: its status, and the fault where the line on standard error says more than the status.
 #[derive(Drop)]
 pub(crate) struct End {
     pub(crate) status: u8,
@@ -15,7 +15,7 @@ pub(crate) struct End {
 }
 
 impl End {
-    /// An end that its status tells.
+    /// An end with this status and no fault that says more.
     pub(crate) fn of(status: u8) -> End
         ensures { result.status ≡ status }
     {
@@ -25,7 +25,7 @@ impl End {
         }
     }
 
-    /// An end that a fault tells.
+    /// An end with this status, whose line tells the fault.
     pub(crate) fn by(status: u8, fault: Fault) -> End {
         End {
             status,

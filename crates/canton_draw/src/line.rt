@@ -5,7 +5,7 @@ use canton_run::{Finish, ended};
 use ledger_terms::Name;
 use std::alloc::{AllocError, Global};
 
-/// The line for an end with another status than 0, without its line feed. It begins with a name.
+/// The line on standard error for an end with another status than 0, without its line feed. It begins with `name`, that of the drawing.
 pub(crate) fn line_of(alloc: Global, name: &str, end: End) -> Result<String, AllocError> {
     if let Some(Fault::Participant(missing)) = &end.fault {
         return participant_line(alloc, name, missing);
@@ -25,7 +25,7 @@ fn participant_line(alloc: Global, name: &str, missing: &Name) -> Result<String,
     format!(in alloc; "{name}: no participant {missing}")
 }
 
-/// The line of a run, which begins with the name of the program of runs, with another name.
+/// The line that `canton_cli` writes for such an end of a run, with `name` in the place of `canton_cli`.
 fn line_as_run(alloc: Global, name: &str, finish: Finish) -> Result<String, AllocError> {
     let line = canton_run::line(alloc, &finish);
     finish.forget();

@@ -29,10 +29,10 @@ use std::thread::Threads;
 use std::{env, io};
 use top_call::draw;
 
-/// Bytes of a word, which name no drawing where they are more.
+/// The first word has room for so many bytes; a longer one names no drawing.
 const MOST_WORD_BYTES: usize = 8;
 
-/// The drawing that the first word names. It is known where the words as a whole can't be had, too.
+/// The drawing that the first word names. It is known even where there is no memory for all words. None: it names none.
 fn drawing_of(rt: &HostRuntime) -> Option<Drawing> {
     let mut word = [0u8; MOST_WORD_BYTES];
     match rt.arg(1, &mut word) {
@@ -45,7 +45,7 @@ fn words_of(rt: &HostRuntime) -> io::Result<Vec<String>> {
     Ok(env::args(rt)?.collect(rt.alloc())?)
 }
 
-/// Does what the words ask for, where they can be had. A script is run by one thread.
+/// Does what the words ask for; where there was no memory for the words it ends with the status of that. A script is run by one thread.
 fn end_of<R: Threads + Wait + Sync + RandomSource + AllocGlobal, S: Source, K: Sink>(
     rt: &R,
     alloc: Global,

@@ -25,7 +25,7 @@ use std::sync::Wait;
 use std::thread::Threads;
 use trigger_rules::{Answering, Closure, RuleList, Rules};
 
-/// The participant with a name.
+/// The participant with this name. None: the topology has none.
 fn participant_of(topology: &Topology, name: Name) -> Option<ParticipantId> {
     for (at, host) in (0..=255u8).zip(topology.hosts.as_slice()) {
         if host.name == name {
@@ -35,7 +35,7 @@ fn participant_of(topology: &Topology, name: Name) -> Option<ParticipantId> {
     None
 }
 
-/// The participant that a name behind `--for` names, where one stands there.
+/// The participant that the name behind `--for` names; None where no name is given. Err: no participant of the script has the name.
 pub(crate) fn reader_in(
     topology: &Topology,
     name: Option<Name>,
@@ -49,7 +49,7 @@ pub(crate) fn reader_in(
     }
 }
 
-/// The log that a script's run leaves, whose rules are answered so.
+/// The log that a script's run leaves. Its rules answer by `answer`, which says what a rule exercises on a contract.
 fn log_by<R: Threads + Wait + Sync + RandomSource + AllocGlobal, G: Gate + Sync, A: Answering>(
     workers: &Workers<'_, R, G>,
     setup: &Setup,
@@ -74,7 +74,7 @@ fn log_by<R: Threads + Wait + Sync + RandomSource + AllocGlobal, G: Gate + Sync,
     Ok(played.into_log())
 }
 
-/// The log that a script's run leaves, as the program runs it.
+/// The log that a script's run leaves, with the rules' answers that `canton_cli` has.
 pub(crate) fn log_of<R: Threads + Wait + Sync + RandomSource + AllocGlobal, G: Gate + Sync>(
     workers: &Workers<'_, R, G>,
     setup: &Setup,

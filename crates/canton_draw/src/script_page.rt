@@ -47,8 +47,8 @@ fn page_text<R: Threads + Wait + Sync + RandomSource + AllocGlobal, G: Gate + Sy
     page_of(workers.alloc, setup, log.len() as u64, first, reader)
 }
 
-/// Runs a script as the program does and writes the page of its run, of what one participant knows where a name is given. Without a page
-/// there is how the program ends.
+/// Runs a script as `run` without an option does and gives the page of its run, of what one participant knows where `reader` is a name. Err: how the
+/// program ends where there is no page.
 pub(crate) fn script_page<R: Threads + Wait + Sync + RandomSource + AllocGlobal, G: Gate + Sync>(
     workers: &Workers<'_, R, G>,
     script: Script,

@@ -31,8 +31,8 @@ fn picture_text<R: Threads + Wait + Sync + RandomSource + AllocGlobal, G: Gate +
     drawn(workers.alloc, &picture)
 }
 
-/// Runs a script as the program does and draws its requests, for one participant where a name is given. Without a picture there is how the
-/// program ends.
+/// Runs a script as `run` without an option does and gives the picture of its requests, as one participant is shown them where `reader` is a name.
+/// Err: how the program ends where there is no picture.
 pub(crate) fn script_picture<R: Threads + Wait + Sync + RandomSource + AllocGlobal, G: Gate + Sync>(
     workers: &Workers<'_, R, G>,
     script: Script,

@@ -19,10 +19,10 @@ use std::random::RandomSource;
 use std::sync::Wait;
 use std::thread::Threads;
 
-/// Bytes of a report.
+/// The most bytes that a report may have.
 const MOST_REPORT_BYTES: usize = 67_108_864;
 
-/// The help, or the picture of what the source gives.
+/// The text that is to be written: the help, or the picture or the page of what the source gives. Err: how the program ends where there is none.
 fn text_of<R: Threads + Wait + Sync + RandomSource + AllocGlobal, G: Gate + Sync, S: Source>(
     workers: &Workers<'_, R, G>,
     asked: Asked,
@@ -48,6 +48,7 @@ fn text_of<R: Threads + Wait + Sync + RandomSource + AllocGlobal, G: Gate + Sync
     }
 }
 
+/// Writes the whole text. The status is 5 where the sink failed.
 fn write<K: Sink>(sink: &mut K, text: &Text) -> End
     ensures { (result.status ≡ 0) ⊎ (result.status ≡ 5) }
 {
@@ -57,8 +58,8 @@ fn write<K: Sink>(sink: &mut K, text: &Text) -> End
     }
 }
 
-/// Does what all the words ask for: writes the help, or reads a report or a script from the source and writes its picture. The text is made
-/// whole before anything of it is written.
+/// Does what the words ask for, of which the first two are the program's name and the drawing's: writes the help, or reads a report or a script from
+/// the source and writes its picture or page. The text is made whole before anything of it is written.
 pub(crate) fn draw<
     R: Threads + Wait + Sync + RandomSource + AllocGlobal,
     G: Gate + Sync,

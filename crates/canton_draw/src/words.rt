@@ -20,6 +20,7 @@ const FOR_PAGE: &str = "Writes what this participant knows, and nothing else";
 
 const FOR: &str = "Draws what this participant is shown, with hashes in the place of all else";
 
+/// The command line of a drawing, as `clap` reads it.
 fn command<'a>(alloc: Global, drawing: Drawing) -> Result<Command<'a>, AllocError> {
     match drawing {
         Drawing::Chart => Ok(
@@ -59,8 +60,8 @@ fn texts_of(alloc: Global, all: &[String]) -> Result<Vec<&str>, AllocError> {
     Ok(texts)
 }
 
-/// What all the words ask for, of which the first two are the program's name and the drawing's. A name behind `--for` that is no name of
-/// anything isn't accepted.
+/// What all the words ask for, of which the first two are the program's name and the drawing's. Err: how the program ends where they aren't accepted,
+/// as where `--for` has a text that can't be a name.
 pub(crate) fn asked_by(alloc: Global, drawing: Drawing, all: &[String]) -> Result<Asked, End> {
     let texts = texts_of(alloc, all)?;
     let command = command(alloc, drawing)?;
@@ -82,7 +83,7 @@ fn asked_for(drawing: Drawing, given: &ArgMatches<'_>) -> Result<Asked, End> {
     }
 }
 
-/// The name behind `--for`, where it is given.
+/// The name behind `--for`; None where it isn't given. Err: what stands there can't be a name.
 fn reader_of(given: &ArgMatches<'_>) -> Result<Option<Name>, End> {
     match given.get_str("for") {
         Some(text) => match Name::read(text) {
@@ -93,6 +94,7 @@ fn reader_of(given: &ArgMatches<'_>) -> Result<Option<Name>, End> {
     }
 }
 
+/// What comes of words that `clap` doesn't take as a command: the help where they ask for it, else how the program ends.
 fn answer_to(alloc: Global, error: &Error) -> Result<Asked, End> {
     match error.kind() {
         ErrorKind::DisplayHelp => {

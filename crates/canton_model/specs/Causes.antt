@@ -15,19 +15,22 @@ use Rattle.canton_model.specs.Inbox.{inbox}
 use Rattle.canton_model.specs.Ledger.{opened_to, status_in, is_withheld}
 use Rattle.canton_model.specs.Checks.{verdict_on_offer}
 
--- A request below the place that isn't decided there creates or consumes the contract, by an authentic action that a complete
--- envelope opens.
+-- Contract c is locked at place k of the log: a request below k that isn't decided at k creates or consumes it, by an authentic action that a
+-- complete envelope opens to some participant.
 pub record IsLockedIn (reading : Reading) (params : Params) (log : List Entry) (k : ℕ) (c : Hash) : Type 0 where
+  -- where the request stands that locks the contract
   pub place : ℕ
   pub below : place < k
   pub undecided : is_decided_at (timeline_of log) place (decision_time_of params log place) k ≡ false
+  -- to whom a complete envelope opens the action
   pub participant : ParticipantId
   pub act : Act
   pub is_opened : Contains (acts (opened_to reading participant (request_at log place))) act
   pub authentic : reading.is_authentic act ≡ true
   pub changes : (creates c act || consumes c act) ≡ true
 
--- some action of the view's core, as the view is opened to the participant, has this
+-- Some action of the core of the view with this path, as a complete envelope of the request opens it to participant p, has the property P. P is told
+-- all that p is shown, and the action with its number in it.
 pub record SomeCore (reading : Reading) (p : ParticipantId) (request : Request) (path : Path) (P : Shown → ℕ × Act → Type 0) : Type 0 where
   pub shown : Shown
   pub is_shown : shown_to reading p request ≡ Some shown
@@ -38,16 +41,18 @@ pub record SomeCore (reading : Reading) (p : ParticipantId) (request : Request) 
   pub in_core : Contains view.core action
   pub holds : P shown action
 
--- no authentic action that is opened before this one creates its contract
+-- Whether an authentic action that is opened before this one, in the same request, creates its contract. The action stands behind its number among
+-- all that is shown.
 abbrev pub is_created_before : Reading → Shown → ℕ × Act → Bool
 is_created_before reading shown a =
     list_any (λ (b : Act). reading.is_authentic b && creates (id_of (a.1).action) b) (take a.0 (acts shown.roots))
 
--- a place below this one is withheld from the participant
+-- a place below j is withheld from participant p
 abbrev pub IsWithheldBelow : Reading → List Entry → ParticipantId → ℕ → Type 0
 IsWithheldBelow reading log p j = (m : ℕ) × (m < j) × (is_withheld reading log p m ≡ true)
 
--- what the reason says of a view, whether hashes collide or not
+-- What participant p's rejection for this reason says, whether hashes collide or not, of the view with this path of the request at place j: for
+-- Locked, that an action of the core is on a contract that is locked there; for any other reason nothing.
 abbrev pub LocalReasonHolds : Reading → Params → List Entry → (j : ℕ) → ParticipantId → Request → Path → Reason → Type 0
 LocalReasonHolds reading params log j p request path Locked =
     SomeCore reading p request path (λ shown a. IsLockedIn reading params log j (id_of (a.1).action))
@@ -64,7 +69,8 @@ LocalReasonHolds reading params log j p request path Unordered = Unit {0}
 LocalReasonHolds reading params log j p request path NotConformant = Unit {0}
 LocalReasonHolds reading params log j p request path NotAuthorised = Unit {0}
 
--- what it says besides of the ledger, where none collide
+-- What such a rejection says of the ledger besides, where no hashes collide: for Inactive, that a contract that an action of the core uses isn't
+-- active by the ledger, or something is withheld from p; for NotFresh, that one that it creates isn't unknown; else nothing.
 abbrev pub LedgerReasonHolds : Reading → List Entry → (j : ℕ) → ParticipantId → Request → Path → Reason → Type 0
 LedgerReasonHolds reading log j p request path Inactive =
     SomeCore reading p request path (λ shown a.
@@ -85,43 +91,47 @@ LedgerReasonHolds reading log j p request path Unordered = Unit {0}
 LedgerReasonHolds reading log j p request path NotConformant = Unit {0}
 LedgerReasonHolds reading log j p request path NotAuthorised = Unit {0}
 
--- The participant confirms the view, and its check there gives the reason.
+-- Participant p confirms the view with this path of the request at place j, and its check of the view there gives the reason.
 pub record RejectionStands (reading : Reading) (params : Params) (log : List Entry) (j : ℕ) (p : ParticipantId) (path : Path) (reason : Reason) : Type 0 where
   pub request : Request
+  -- the request stands at place j
   pub there : request_at log j ≡ Some request
+  -- p has to confirm the view
   pub is_confirmed : Contains (paths_confirmed reading p request) path
+  -- the place in the core of the action that shows the reason
   pub action : ℕ
   pub check : verdict_on_offer reading params p (inbox reading p (take (suc j) log)) j request.sender path (reading.offered p request)
       ≡ Reject reason action
 
--- It does, and what the reason says is so.
+-- The rejection stands, as `RejectionStands` has it, and what its reason says is so, whether hashes collide or not.
 pub record LocalRejectionHolds (reading : Reading) (params : Params) (log : List Entry) (j : ℕ) (p : ParticipantId) (path : Path) (reason : Reason)
     : Type 0 where
   pub stands : RejectionStands reading params log j p path reason
   pub holds : LocalReasonHolds reading params log j p stands.request path reason
 
--- And what it says of the ledger is so too.
+-- The rejection holds as `LocalRejectionHolds` has it, and what its reason says of the ledger is so too.
 pub record RejectionHolds (reading : Reading) (params : Params) (log : List Entry) (j : ℕ) (p : ParticipantId) (path : Path) (reason : Reason) : Type 0 where
   pub locally : LocalRejectionHolds reading params log j p path reason
   pub holds : LedgerReasonHolds reading log j p (locally.stands).request path reason
 
--- p has a response to the request at place j by this time
+-- whether participant p has a response to the request at place j in an entry that isn't later than this time
 abbrev pub has_responded_by : List Entry → (j time : ℕ) → ParticipantId → Bool
 has_responded_by log j time p = list_any (λ (entry : Entry). not (nat_lt time entry.time) && is_response_of p j entry.message) log
 
--- Some entry is past the deadline, and the missing are exactly the confirming participants without a response by it.
+-- A timeout of the request at place j is right: some entry is past the deadline, and the participants named as missing are exactly the confirming
+-- ones without a response by it, in order.
 pub record TimeoutHolds (params : Params) (log : List Entry) (j : ℕ) (missing : List ParticipantId) : Type 0 where
   pub request : Request
   pub there : request_at log j ≡ Some request
   pub past : is_past (deadline_of params log j) (timeline_of log) ≡ true
   pub exact : missing ≡ filter (λ p. not (has_responded_by log j (deadline_of params log j) p)) request.confirming
 
--- Some entry is past the decision time, and no verdict stands.
+-- The request at place j has expired: some entry is past its decision time, and no verdict on it stands in the log.
 pub record ExpiryHolds (params : Params) (log : List Entry) (j : ℕ) : Type 0 where
   pub past : is_past (decision_time_of params log j) (timeline_of log) ≡ true
   pub unanswered : verdict_on j (timeline_of log) ≡ None
 
--- what an outcome of the request at place j says without the ledger
+-- What this outcome of the request at place j says, whether hashes collide or not. Of an approved or an undecided request it is nothing.
 abbrev pub LocalCauseOf : Reading → Params → List Entry → (j : ℕ) → Outcome → Type 0
 LocalCauseOf reading params log j (Decided Approved) = Unit {0}
 LocalCauseOf reading params log j (Decided (Rejected from view reason)) = LocalRejectionHolds reading params log j from view reason
@@ -129,7 +139,7 @@ LocalCauseOf reading params log j (Decided (TimedOut missing)) = TimeoutHolds pa
 LocalCauseOf reading params log j Expired = ExpiryHolds params log j
 LocalCauseOf reading params log j Undecided = Unit {0}
 
--- what it says
+-- What this outcome of the request at place j says where no hashes collide: a rejection tells besides what the ledger says of its contract.
 abbrev pub CauseOf : Reading → Params → List Entry → (j : ℕ) → Outcome → Type 0
 CauseOf reading params log j (Decided Approved) = Unit {0}
 CauseOf reading params log j (Decided (Rejected from view reason)) = RejectionHolds reading params log j from view reason

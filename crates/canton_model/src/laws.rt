@@ -31,7 +31,7 @@ ghost use Rattle.ledger_model.specs.Status.{is_locked_by, status_after};
 ghost use Rattle.canton_model.specs.Evidence.{IsShownApprovedChanges, past_at, pending_at};
 ghost use Rattle.canton_model.specs.Evidence.{status_at, Requests, Opened, Final, Checked, ledger_below};
 
-/// The approved requests of a log, in order, are a consistent ledger, whatever requests are.
+/// The approved requests below a place `end`, in order, are a consistent ledger, whatever requests are, where the three premises hold.
 pub fn one_ledger()
     ensures consistent { (r : Requests) (end : ℕ)
         → Opened r end
@@ -40,14 +40,16 @@ pub fn one_ledger()
         → Consistent (ledger_acts (ledger_below r.is_approved r.whole end)) }
 {}
 
-/// In a log with its times and verdicts in order, a request that is decided stays as it is.
+/// In a log with its times and verdicts in order, a request that is decided at a place is approved over the whole log just where an Approved verdict
+/// on it stands before that place, and before a place where it is undecided none stands.
 pub fn decided_is_final()
     ensures { (reading : Reading) (params : Params) (log : List Entry) (confirms_signatory_of : ParticipantId → Hash → Bool)
         → Timely params log
         → Final (requests_of reading params log confirms_signatory_of) (length log) }
 {}
 
-/// The same of one log.
+/// The approved requests of a log with its times and verdicts in order are a consistent ledger, where the two other premises of `one_ledger` hold of
+/// its requests.
 pub fn one_ledger_of_log()
     ensures { (reading : Reading) (params : Params) (log : List Entry) (confirms_signatory_of : ParticipantId → Hash → Bool)
         → Timely params log
@@ -56,8 +58,8 @@ pub fn one_ledger_of_log()
         → Consistent (ledger_acts (ledger reading log)) }
 {}
 
-/// A participant that is shown every change of a contract by approved requests below a place, and doesn't count the contract as
-/// locked there, gives it the ledger's status.
+/// A participant p that is shown every change of contract c by approved requests below place k, and doesn't count c as locked there, gives it the
+/// ledger's status at k.
 pub fn status_is_shared()
     ensures { (r : Requests) (end p k : ℕ) (c : Hash)
         → k < end
@@ -68,8 +70,8 @@ pub fn status_is_shared()
         → status_after (past_at r p k) c ≡ status_at r k c }
 {}
 
-/// A participant's log up to its clean place is the projection to its hosted parties of the ledger without the places that are
-/// withheld from it.
+/// The log of participant p up to its clean place, when it has read n entries, is the projection to its hosted parties of the ledger without the
+/// places that are withheld from it.
 pub fn node_log_is_projection()
     ensures { (reading : Reading) (params : Params) (log : List Entry) (p : ParticipantId) (n : ℕ)
         → IsReading reading
@@ -81,7 +83,7 @@ pub fn node_log_is_projection()
         (without_places (is_withheld reading log p) (commits_below reading log (clean params (inbox reading p (take n log))))) }
 {}
 
-/// Below its clean place a participant knows which places are withheld from it.
+/// Below its clean place a participant p that has read n entries knows of each place k whether it is withheld from it.
 pub fn what_is_withheld_is_known()
     ensures { (reading : Reading) (params : Params) (log : List Entry) (p : ParticipantId) (n k : ℕ)
         → Genuine reading params log
@@ -99,7 +101,7 @@ pub fn one_ledger_of_genuine_log()
         → Consistent (ledger_acts (ledger reading log)) }
 {}
 
-/// Approved requests have a whole, which conforms and is authorised, where no hashes collide.
+/// The approved request at place k has a whole, which conforms and is authorised, where no hashes collide.
 pub fn approved_conform_and_are_authorised()
     ensures whole { (reading : Reading) (params : Params) (log : List Entry) (k : ℕ) (request : Request)
         → IsReading reading
@@ -124,7 +126,7 @@ pub fn approved_conform_and_are_authorised()
         → is_commit_authorised (roles_of reading.language) commit ≡ true }
 {}
 
-/// Each view of an approved request was found, by somebody that confirms it, to be from the sender and well split.
+/// Each view of the approved request at place k was found, by somebody that confirms it, to be from the sender and well split.
 pub fn approved_requests_are_vouched_for()
     ensures { (reading : Reading) (params : Params) (log : List Entry) (k : ℕ) (request : Request) (path : Path)
         → IsReading reading
@@ -135,8 +137,8 @@ pub fn approved_requests_are_vouched_for()
         → IsVouched reading request path }
 {}
 
-/// A participant's active contracts at each place up to its clean one are those with a hosted stakeholder that the ledger's
-/// commits below that place, taken whole and without the places that are withheld from it, create and don't consume.
+/// The active contracts of participant p, which has read n entries, at each place m up to its clean one are those with a hosted stakeholder that the
+/// ledger's commits below m, taken whole and without the places that are withheld from p, create and don't consume.
 pub fn active_sets_are_exact()
     ensures { (reading : Reading) (params : Params) (log : List Entry) (p : ParticipantId) (n m : ℕ)
         → IsReading reading
@@ -148,8 +150,8 @@ pub fn active_sets_are_exact()
         ≡ active_of reading p (without_places (is_withheld reading log p) (commits_below reading log m)) }
 {}
 
-/// Two participants know the same contracts of which each of them hosts a stakeholder, at each place up to both of their clean
-/// places and below which nothing is withheld from either, however far each has read.
+/// Two participants p and q know the same contracts of which each of them hosts a stakeholder, at each place m up to both of their clean places and
+/// below which nothing is withheld from either, however far each has read (n and o entries).
 pub fn shared_contracts_agree()
     ensures { (reading : Reading) (params : Params) (log : List Entry) (p q : ParticipantId) (n o m : ℕ)
         → IsReading reading
@@ -176,7 +178,7 @@ pub fn example()
     ensures unsettled { clean Example.params (inbox Example.reading 0 (take 2 Example.log)) ≡ 0 }
 {}
 
-/// What a rejection, a timeout or an expiry says is so, whether hashes collide or not: the check of the participant that
+/// What a rejection, a timeout or an expiry of the request at place j says is so, whether hashes collide or not: the check of the participant that
 /// rejects gives the reason that is told, and a contract that is said to be locked is locked.
 pub fn each_outcome_has_its_cause()
     ensures { (reading : Reading) (params : Params) (log : List Entry) (j : ℕ)
@@ -185,7 +187,7 @@ pub fn each_outcome_has_its_cause()
         → LocalCauseOf reading params log j (outcome_of (timeline_of log) j (decision_time_of params log j)) }
 {}
 
-/// Where none collide, a rejection for a contract's status tells besides what the ledger says of the contract.
+/// Where no hashes collide, a rejection of the request at place j for a contract's status tells besides what the ledger says of the contract.
 pub fn each_rejection_holds_of_the_ledger()
     ensures { (reading : Reading) (params : Params) (log : List Entry) (j : ℕ)
         → IsReading reading
@@ -194,7 +196,7 @@ pub fn each_rejection_holds_of_the_ledger()
         → CauseOf reading params log j (outcome_of (timeline_of log) j (decision_time_of params log j)) }
 {}
 
-/// What a participant counts as locked is locked.
+/// A contract c that participant p counts as locked at place k is locked there: some undecided request creates or consumes it.
 pub fn what_counts_as_locked_is_locked()
     ensures { (reading : Reading) (params : Params) (log : List Entry) (p k : ℕ) (c : Hash)
         → Genuine reading params log
@@ -202,9 +204,9 @@ pub fn what_counts_as_locked_is_locked()
         → IsLockedIn reading params log k c }
 {}
 
-/// Who doesn't count a contract as locked gives it the ledger's status where it confirms a signatory of it, or hosts a
-/// stakeholder of it and nothing below the place is withheld from it. The contract's instance is that of an authentic action on
-/// it which a complete envelope opens to anybody.
+/// A participant p that doesn't count a contract as locked at place k gives it the ledger's status there, where it confirms a signatory of it, or
+/// hosts a stakeholder of it and nothing below k is withheld from it. The contract is that of action a, which is authentic and is opened to anybody
+/// (q) by a complete envelope, at any place (j).
 pub fn participants_agree_with_the_ledger()
     ensures confirming { (reading : Reading) (params : Params) (log : List Entry) (p q j k : ℕ) (a : Act)
         → IsReading reading
@@ -229,13 +231,13 @@ pub fn participants_agree_with_the_ledger()
         → status_in_inbox reading (inbox reading p (take (suc k) log)) k (id_of a.action) ≡ status_in reading log k (id_of a.action) }
 {}
 
-/// The clean place is the greatest below which every request is decided.
+/// The clean place of an inbox is the greatest place below which every request received is decided.
 pub fn clean_is_greatest()
     ensures clean { (params : Params) (items : List Item) → IsClean params items (Inbox.clean params items) }
     ensures greatest { (params : Params) (items : List Item) (n : ℕ) → IsClean params items n → n ≤ Inbox.clean params items }
 {}
 
-/// Every beginning of a genuine log is genuine, and a genuine log with one entry more that fits it is.
+/// Every beginning of a genuine log is genuine, and so is a genuine log with one entry more that fits it.
 pub fn genuine_logs_grow()
     ensures beginning { (reading : Reading) (params : Params) (log : List Entry) (n : ℕ) → Genuine reading params log → Genuine reading params (take n log) }
     ensures next { (reading : Reading) (params : Params) (log : List Entry) (entry : Entry)
@@ -244,15 +246,14 @@ pub fn genuine_logs_grow()
         → Genuine reading params (log ++ entry ∷ []) }
 {}
 
-/// What the mediator decides over a log it decides over every longer one.
+/// What the mediator decides on the request at place j over a log it decides over every longer one.
 pub fn decisions_stay()
     ensures { (params : Params) (log more : List Entry) (j : ℕ) (decision : Decision)
         → scan params log j ≡ Some decision
         → scan params (log ++ more) j ≡ Some decision }
 {}
 
-/// What a participant knows of contracts at a place, and the verdicts that it owes there, depend on the items up to that
-/// place alone.
+/// What a participant knows of contracts at place k, and the verdicts that it owes there, depend on the first k + 1 items alone.
 pub fn later_items_change_nothing()
     ensures status { (reading : Reading) (items : List Item) (k : ℕ) (c : Hash)
         → status_in_inbox reading (take (suc k) items) k c ≡ status_in_inbox reading items k c }
@@ -262,7 +263,7 @@ pub fn later_items_change_nothing()
         → verdicts_owed reading params p (take (suc k) items) k ≡ verdicts_owed reading params p items k }
 {}
 
-/// A recipient of a request learns by its inbox whether and how the request was decided.
+/// A recipient p of the request at place k learns by its inbox whether and how the request was decided.
 pub fn recipients_learn_outcomes()
     ensures decided { (reading : Reading) (params : Params) (p : ParticipantId) (log : List Entry) (k : ℕ) (request : Request)
         → Timely params log
@@ -277,7 +278,7 @@ pub fn recipients_learn_outcomes()
         → outcome_in params (inbox reading p log) k ≡ outcome_of (timeline_of log) k (decision_time_of params log k) }
 {}
 
-/// A genuine log without collisions has what one ledger rests on.
+/// A genuine log without collisions meets the premises `Opened` and `Checked` on which one ledger rests.
 pub fn genuine_logs_are_evidence()
     ensures opened { (reading : Reading) (params : Params) (log : List Entry)
         → IsReading reading
@@ -291,7 +292,8 @@ pub fn genuine_logs_are_evidence()
         → Checked (requests_of reading params log (is_guard reading log)) (length log) }
 {}
 
-/// A complete envelope opens each view that its recipient confirms, so that a view is found missing only where an envelope is.
+/// A complete envelope opens to its recipient p each view that p confirms, by the view's path, so that a view is found missing only where an
+/// envelope is.
 pub fn complete_envelopes_open_what_is_confirmed()
     ensures { (reading : Reading) (request : Request) (p : ParticipantId) (shown : Shown) (path : Path)
         → FramedFacts reading request
@@ -300,7 +302,7 @@ pub fn complete_envelopes_open_what_is_confirmed()
         → (view : OpenedView) × (view_at path shown.views ≡ Some view) }
 {}
 
-/// A framed request asks somebody.
+/// A framed request asks at least one participant.
 pub fn framed_requests_ask_somebody()
     ensures { (reading : Reading) (request : Request)
         → FramedFacts reading request
@@ -313,7 +315,7 @@ pub fn inbox_grows()
         → inbox reading p (log ++ entry ∷ []) ≡ inbox reading p log ++ item_after reading p log entry ∷ [] }
 {}
 
-/// The decisions and clean places of worked examples.
+/// The decisions and clean places of worked examples: each clause computes one of a log of `Worked.antt`, which describes the log.
 pub fn worked_decisions()
     ensures first_spend { scan Worked.params two_spends 3 ≡ Some Approved }
     ensures second_spend { scan Worked.params two_spends 4 ≡ Some (Rejected 0 (0 ∷ []) Locked) }
@@ -340,7 +342,8 @@ pub fn worked_log_is_genuine()
     ensures kept_genuine { Genuine Worked.reading Worked.params kept_from_carol }
 {}
 
-/// The responses of worked examples.
+/// The verdicts that participants owe in worked examples: each clause computes those of one participant, 0 for Bank's, 1 for Alice's and 2 for
+/// Carol's, on one request of a log of `Worked.antt`.
 pub fn worked_checks()
     ensures transfer_bank { verdicts_owed Worked.reading Worked.params 0 (inbox Worked.reading 0 (take 4 two_spends)) 3 ≡ v0 Approve ∷ v00 Approve ∷ [] }
     ensures transfer_alice { verdicts_owed Worked.reading Worked.params 1 (inbox Worked.reading 1 (take 4 two_spends)) 3 ≡ v0 Approve ∷ [] }
@@ -367,7 +370,8 @@ pub fn worked_checks()
     ensures foreign_root_alice { verdicts_owed Worked.reading Worked.params 1 (inbox Worked.reading 1 (alone 10)) 0 ≡ v0 Approve ∷ [] }
 {}
 
-/// Verdicts on the requests of senders that leave an envelope out, send another tree, or tell of a request what isn't so.
+/// Verdicts that participants owe to the requests of senders that leave an envelope out, send another tree, or tell of a request what isn't so; each
+/// clause computes those of one participant, 0 for Bank's, 1 for Alice's and 2 for Carol's.
 pub fn worked_checks_of_tampered_requests()
     ensures no_envelope_bank { verdicts_owed Worked.reading Worked.params 0 (inbox Worked.reading 0 (asked 20)) 3
         ≡ v0 (Reject ViewMissing 0) ∷ v00 (Reject ViewMissing 0) ∷ [] }

@@ -40,12 +40,12 @@ round_of round =
       submits = round.submits;
     }
 
--- a script's round with its results and the length of the log at its end, in the words of the world model
+-- a script's round with the results of its submissions and the length of the log at its end, in the words of the world model
 abbrev pub answered_round : Round → List SubmitResult → (end : ℕ) → w.RoundAnswers SubmitFault
 answered_round round results end = record { round = round_of round; results = results_of round.submits results; end = end }
 
 -- Each round with its own results and the length of the log at its end, in the words of the world model. `results` are those of all rounds, in script
--- order.
+-- order, and rounds for which `ends` has no end are left out.
 abbrev pub answered : List Round → List SubmitResult → (ends : List ℕ) → List (w.RoundAnswers SubmitFault)
 answered [] results ends = []
 answered (round ∷ rounds) results [] = []

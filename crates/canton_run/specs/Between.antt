@@ -29,7 +29,7 @@ use Rattle.canton_run.specs.Run.{machine_for, script_with, submissions_in, why_f
 abbrev pub time_in : List Round → ℕ
 time_in rounds = sum_by (λ (round : Round). round.advance) rounds
 
--- the script is accepted, and the round is the one behind its first `count` rounds
+-- the script is accepted, and the round is the one with the number `count` among its rounds, counted from 0
 pub record IsRoundOf (script : Script) (count : ℕ) (round : Round) : Type 0 where
   pub accepted : IsAccepted script
   pub there : slice_get script.rounds count ≡ Some round
@@ -41,12 +41,12 @@ pub record IsPartOf (script : Script) (part : Round) : Type 0 where
   pub within : All (CanSubmit script.topology script.checked) part.submits
   pub there : All (λ (what : Submission). what.participant < length (script.topology).hosts) part.submits
 
--- the script's participants and packages are those of the setup
+-- the setup has the topology and the packages of the script
 abbrev pub IsSetupOf : Script → Setup → Type 0
 IsSetupOf script setup = script ≡ script_with setup script.triggers script.rounds
 
--- The round has begun on the script's synchroniser, and its submissions are of participants that there are and name only parties of the
--- topology.
+-- What has to hold before the submissions of a round are answered: the world is the script's synchroniser, lawful and with a time in range, the round
+-- has begun on it, the packages name only parties of the topology, and the submissions do so too and are of participants that there are.
 pub record CanBeAnswered (script : Script) (capacity : ℕ) (round : Round) (world : World) : Type 0 where
   pub machine : IsMachine (machine_for script capacity)
   pub state : MediatorState
@@ -60,7 +60,8 @@ pub record CanBeAnswered (script : Script) (capacity : ℕ) (round : Round) (wor
   pub within : All (CanSubmit script.topology script.checked) round.submits
   pub there : All (λ (what : Submission). what.participant < length (script.topology).hosts) round.submits
 
--- Once the synchroniser has settled, the round with these answers is a part of the run, whatever log it began on.
+-- The world is `before` when the round has begun and `after` when its submissions were answered with `results`. Once `after` has settled, the round
+-- with these results is a part of the run, played by so many workers, whatever log (`first`) the round began on.
 abbrev pub SettlesAsPart : Script → (capacity workers : ℕ) → Round → (before after : World) → List SubmitResult → Type 0
 SettlesAsPart script capacity workers round before after results =
     (first settled : List Entry) → GenuineLog (machine_for script capacity) first × (reserved first ≤ (machine_for script capacity).capacity)
@@ -69,7 +70,8 @@ SettlesAsPart script capacity workers round before after results =
     (left (machine_for script capacity).hosts (after.sequencer).list) (after.sequencer).list
     → PartBy workers (machine_for script capacity) (why_for script) before.now (round_of round) (results_of round.submits results) first settled
 
--- All submissions of the round have these results, in their order, and the synchroniser hasn't settled.
+-- All submissions of the round were answered with these results, in their order, by so many workers, and that made the world `after` of the world
+-- `before`. The world hasn't settled yet.
 pub record IsAnsweredRound (script : Script) (capacity workers : ℕ) (round : Round) (before after : World) (results : List SubmitResult)
     : Type 0 where
   pub state : MediatorState
@@ -81,7 +83,8 @@ pub record IsAnsweredRound (script : Script) (capacity workers : ℕ) (round : R
   pub plain : All IsPlainResult results
   pub part : SettlesAsPart script capacity workers round before after results
 
--- These parts were played on the script's synchroniser, one after another, by so many workers, with these results and ends.
+-- These parts of rounds, as rounds, were played on the script's new synchroniser, one after another, by so many workers. `results` are those of all their
+-- submissions, in order, and `ends` the lengths of the log at the end of each part.
 pub record ArePlayed (script : Script) (capacity workers : ℕ) (parts : List Round) (world : World) (results : List SubmitResult) (ends : List ℕ)
     : Type 0 where
   pub machine : IsMachine (machine_for script capacity)
@@ -95,7 +98,8 @@ pub record ArePlayed (script : Script) (capacity workers : ℕ) (parts : List Ro
   pub plain : All IsPlainResult results
   pub played : RoundsBy workers (machine_for script capacity) (why_for script) 0 [] (answered parts results ends) (world.sequencer).list
 
--- One part more was played behind the others: the log goes on, and `results'` and `ends'` are `results` and `ends` with its own behind them.
+-- The part was played behind the earlier parts, `parts`, and made the world `after` of the world `before`. The log goes on, results' is `results` with
+-- the part's own behind them, and ends' is `ends` with the part's end behind them.
 pub record IsPlayedOn (script : Script) (capacity workers : ℕ) (parts : List Round) (part : Round) (before after : World)
     (results results' : List SubmitResult) (ends ends' : List ℕ) : Type 0 where
   pub own : List SubmitResult

@@ -5,7 +5,7 @@ use Rattle.script_read.specs.declared.script_fault.ScriptFault.{ScriptFault}
 use Rattle.script_read.specs.declared.script_fault.ScriptFault.TheVariants.{NotJson, Shape, NotInteger, Unknown, Package, Limit, Repeated, Memory}
 use Rattle.script_read.specs.Faults.{fault_name}
 
--- why a run ended with this status, in words; at 0 there is no line, and at 3 the script's fault is told
+-- Why a run ended with this status, in words. Of 0 and 3 it says nothing that is written: at 0 there is no line, and at 3 the script's fault is told.
 abbrev pub why_text : ℕ → List ℕ
 why_text status =
     if status == 2 then codes "usage"
@@ -15,7 +15,8 @@ why_text status =
     else if status == 70 then codes "out of memory"
     else codes "unknown status"
 
--- a space and the fault's place, where it has one; the kind of a fault of packages stands before its place
+-- How the line of a script's fault ends: a space and the fault's place, a JSON pointer, where it has one, and else nothing. A fault of packages has its
+-- kind before its place.
 abbrev pub place_text : ScriptFault → List ℕ
 place_text NotJson = []
 place_text (Shape path) = codes " " ++ path
@@ -26,11 +27,11 @@ place_text (Limit path which found) = codes " " ++ path
 place_text (Repeated path) = codes " " ++ path
 place_text Memory = []
 
--- the line of a script's fault: its word, and its place where it has one
+-- the line of a script's fault: its name, and its place where it has one
 abbrev pub fault_line : ScriptFault → List ℕ
 fault_line fault = codes "canton_cli: script " ++ fault_name fault ++ place_text fault
 
--- the line that says why a run ended: by the script's fault where there is one, and else by the status
+-- the line on standard error that says why a run ended: by the script's fault where there is one, and else by the status
 abbrev pub line_of : ℕ → Option ScriptFault → List ℕ
 line_of status (Some fault) = fault_line fault
 line_of status None = codes "canton_cli: " ++ why_text status

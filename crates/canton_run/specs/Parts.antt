@@ -10,21 +10,22 @@ use Rattle.trigger_rules.specs.declared.caused.Caused.{Caused}
 use Rattle.world_play.specs.Results.{results_of}
 use Rattle.canton_run.specs.Answered.{round_of}
 
--- the submissions that rules caused in the round with this number
+-- the submissions that rules caused in the round with this number, in order, among all that they caused
 abbrev pub caused_submits : (number : ℕ) → List Caused → List Submission
 caused_submits number caused = map (λ (one : Caused). one.submission) (of_round number caused)
 
--- The second part of a round, as a round of these submissions that rules caused: nobody restarts, no time passes, and no raw request comes.
+-- The second part of a round, as a round of these submissions that rules caused: nobody restarts, no time passes, and no raw request comes. Who is paused
+-- and whether verdicts are held is as in the round.
 abbrev pub second_of : Round → List Submission → Round
 second_of round caused = record { advance = 0; paused = round.paused; hold_verdicts = round.hold_verdicts; submits = caused; raws = []; restarts = [] }
 
--- both parts of each of the rounds, as rounds; the first of them has this number
+-- the first and then the second part of each of the rounds, as rounds; `number` is that of the first of them
 abbrev pub parts_in : (number : ℕ) → List Round → List Caused → List Round
 parts_in number [] caused = []
 parts_in number (round ∷ rounds) caused = round ∷ second_of round (caused_submits number caused) ∷ parts_in (number + 1) rounds caused
 
--- The rounds with the results and ends of their parts. The results stand in script order, those of a second part behind those of the
--- first, and each round has two ends.
+-- The rounds with the results and ends of their parts; `number` is that of the first of them. The results stand in script order, those of a second part
+-- behind those of the first. Each round has two ends, and from the first that lacks them on the rounds are left out.
 abbrev pub round_parts : (number : ℕ) → List Round → List Caused → List SubmitResult → (ends : List ℕ) → List (RoundParts SubmitFault)
 round_parts number [] caused results ends = []
 round_parts number (round ∷ rounds) caused results [] = []

@@ -29,23 +29,23 @@ use Rattle.trigger_rules.specs.declared.caused.Caused.{Caused}
 use Rattle.trigger_rules.specs.declared.rule.Rule.{Rule}
 use Rattle.canton_run.specs.Parts.{round_parts}
 
--- the script of a setup, rules and rounds
+-- the script with the topology and packages of a setup, these rules and these rounds
 abbrev pub script_with : Setup → List Rule → List Round → Script
 script_with setup rules rounds = record { topology = setup.topology; checked = setup.checked; triggers = rules; rounds = rounds }
 
--- how the participants of a script read requests
+-- how requests are read at the script's topology and packages
 abbrev pub reading_for : Script → Reading
 reading_for script = framed_reading script.topology script.checked
 
--- the times of a script, in microseconds
+-- the times of a script, its skew and its two timeouts, in microseconds
 abbrev pub params_of : Script → Params
 params_of script = (script.topology).params
 
--- the machine of a script's synchroniser, whose requests may need so many places of the log in all
+-- the machine of the script's synchroniser, whose requests may need `capacity` places of the log in all
 abbrev pub machine_for : Script → (capacity : ℕ) → Machine
 machine_for script capacity = machine_of script.topology script.checked capacity
 
--- why a participant of the script refuses a submission, over its inbox and at a time
+-- why a participant of the script refuses a submission that wants no request: a fault for the submission, the participant's inbox and the time
 abbrev pub why_for : Script → Why SubmitFault
 why_for script = why_of script.topology script.checked
 
@@ -53,20 +53,21 @@ why_for script = why_of script.topology script.checked
 abbrev pub submissions_in : List Round → ℕ
 submissions_in rounds = sum_by (λ (round : Round). length round.submits) rounds
 
--- the rounds of a run in their two parts
+-- the rounds of a run of the script in their two parts, with their results, ends and what rules caused in them
 abbrev pub parts_of_run : Script → List SubmitResult → (ends : List ℕ) → List Caused → List (RoundParts SubmitFault)
 parts_of_run script results ends caused = round_parts 0 script.rounds caused results ends
 
--- The second part of each round is one thread's: the requests in order, and passes until one appends nothing. `now` is the time of the
--- round before.
+-- The second part of each round is one thread's: the requests of what rules caused, in order, and passes until one appends nothing. `now` is the time
+-- of the world before the first of these rounds, the log is that of the whole run, and the `Why` says why a submission is refused.
 abbrev pub SecondPartsArePlain : {F : Type 0} → Machine → Why F → (now : ℕ) → List Entry → List (RoundParts F) → Type 0
 SecondPartsArePlain m why now log [] = Unit {0}
 SecondPartsArePlain m why now log (x ∷ rest) =
     PlainPart m why (now + (x.round).advance) (second_round x.round x.caused) x.caused_results (take x.end log) (take x.caused_end log)
     × SecondPartsArePlain m why (now + (x.round).advance) log rest
 
--- The log, the results of the submissions, the ends of the parts of rounds and what rules caused are those of a run of the script. What its
--- rules are answered about contracts is what `may` allows.
+-- The log, the results of the submissions, the ends of the parts of rounds and what rules caused are those of a run of the script by so many workers, 0
+-- where one thread does all the work, whose requests may need `capacity` places of the log. What its rules are answered about contracts is what `may`
+-- allows.
 pub record IsRun (may : Answers) (script : Script) (capacity workers : ℕ) (log : List Entry) (results : List SubmitResult) (ends : List ℕ)
     (caused : List Caused) : Type 0 where
   -- what the log has to do with the script: it is genuine, within its capacity and cut at the ends, each part and each result is as its

@@ -11,17 +11,19 @@ use Rattle.world_model.specs.Machine.{Machine}
 use Rattle.world_play.specs.declared.world.World.{World}
 use Rattle.canton_run.specs.Actives.{own_active}
 
--- the active contracts of a participant at its clean place, and none where it isn't there
+-- the active contracts of a participant that was looked up, at its clean place; none where there is no participant
 abbrev pub active_if : Option Participant → List ActiveRow
 active_if None = []
 active_if (Some participant) = own_active participant
 
--- what is active at the clean place of participant p of these, over what it has read
+-- Of the participants, which stand in the order of the topology, the active contracts of participant p at its clean place, by what it has read; none
+-- where there is no p.
 abbrev pub rows_at : List Participant → ParticipantId → List ActiveRow
 rows_at participants p = active_if (slice_get participants p)
 
--- The rules are at most 16, and of participants that there are. Each has fired on so few contracts, and so few are active wherever its participant
--- has read to, that there are ids for its commands.
+-- What has to hold where `ask_rules` is called: the rules are at most 16, and of participants that there are. `fired_by k` has the ids of the contracts
+-- on which the rule with index k has fired. These are so few, and so few are active wherever its participant has read to, that there are ids for its
+-- commands.
 pub record CanBeAsked (m : Machine) (world : World) (rules : List Rule) (fired_by : ℕ → List (List ℕ)) : Type 0 where
   pub few : length rules ≤ MOST_RULES
   pub there : (k : ℕ) (rule : Rule) → slice_get rules k ≡ Some rule → rule.participant < length (world.nodes).items

@@ -40,7 +40,8 @@ fn audit_bytes<K: Sink>(alloc: Global, bytes: &[u8], sink: &mut K) -> Finish
     }
 }
 
-/// Reads a dump from the source and writes what an audit says of it to the sink. Nothing is run.
+/// Reads a dump from the source and writes the line that says what an audit of it answers to the sink. Nothing is run. The status is 0 where the line was
+/// written, whatever it says, 4 or 6 where the source failed or was too long, 5 where a write failed, and 70 after want of memory.
 pub fn run_audit<S: Source, K: Sink>(alloc: Global, source: &mut S, sink: &mut K) -> Finish
     ensures status { IsAuditStatus result.status }
     ensures kept { result.fault ≡ None }

@@ -26,13 +26,13 @@ pub struct Finish {
 }
 
 impl Finish {
-    /// Gives no memory back, for a program that ends. Whoever lets an end go by this function proves nothing of how the many types in it are dropped.
+    /// Lets the end go without giving its memory back, for a program that ends. A caller needn't prove how the many types in it are dropped.
     pub fn forget(self) {
         mem::forget(self);
     }
 }
 
-/// The end of a run that took place, with this status, by its record.
+/// The end, with this status, of a run that took place: with the run's record, and with its remains, of which nobody asks anything.
 pub fn finished(status: u8, run_record: RunRecord, left: RunRemains) -> Finish
     ensures status { result.status ≡ status }
     ensures fault { result.fault ≡ None }
@@ -52,7 +52,7 @@ pub fn finished(status: u8, run_record: RunRecord, left: RunRemains) -> Finish
     }
 }
 
-/// An end before anything was run, with this status, and the script's fault where there is one.
+/// The end, with this status, where nothing was run, and with the script's fault where there is one. Its log and its other lists are empty.
 pub fn ended(alloc: Global, status: u8, fault: Option<ScriptFault>) -> Finish
     ensures { (result.status ≡ status) × (result.fault ≡ fault) × (result.log ≡ []) × (result.results ≡ []) × (result.ends ≡ [])
         × (result.caused ≡ []) }

@@ -23,7 +23,7 @@ pub struct ScriptParts {
     pub bytes: Bytes,
 }
 
-/// The parts of a script, with the bytes that it was read from.
+/// A script taken apart into setup, rules and rounds, beside the bytes that it was read from.
 pub fn parts_of(given: GivenScript) -> ScriptParts
     ensures script { script_with result.setup result.triggers result.rounds ≡ given.script }
     ensures bytes { result.bytes ≡ given.bytes }

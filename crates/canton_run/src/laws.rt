@@ -15,8 +15,8 @@ ghost use Rattle.canton_run.specs.Run.{IsRun, params_of, reading_for};
 use commitment_text::laws::counterparties_are_told_equal;
 use trigger_rules::Answering;
 
-/// In a run whose log doesn't collide, the line of two participants among the commitments says that both share equally many contracts with
-/// the other, and `equal`, where nothing is withheld from either below the lesser of their clean places, and neither's base is past that.
+/// Two participants of a run are compared at the lesser of their clean places. Where the log doesn't collide, nothing below that place is withheld from
+/// either, and neither's base is past it, their line among the commitments has one count for both and says `equal`.
 pub fn counterparties_of_a_run_are_told_equal<A: Answering>()
     ensures { (answer : A) (script : Script) (capacity workers : ℕ) (log : List Entry) (results : List SubmitResult) (ends : List ℕ) (caused : List Caused)
         (p q : ℕ) (name other : List ℕ) (place : ℕ)

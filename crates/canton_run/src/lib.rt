@@ -1,4 +1,4 @@
-//! The program without its edge: from words and a source to a report in a sink, a status, and a line that says why.
+//! The program without its edge: from words and a source to what they ask for in a sink, a status, and a line that says why.
 #![tactic(auto)]
 
 mod answers;

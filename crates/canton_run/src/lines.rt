@@ -6,8 +6,8 @@ use crate::finish::Finish;
 use script_read::ScriptFault;
 use std::alloc::{AllocError, Global};
 
-/// The line on standard error for a run that ends with another status than 0, without its line feed: why it ended, or the
-/// script's fault with its name and its place, where it has one. A fault of packages has its kind before its place.
+/// The line on standard error for a run that ends with another status than 0, without its line feed: why it ended, or the script's fault with its name
+/// and its place, where it has one. A fault of packages has its kind before its place.
 pub fn line(alloc: Global, finish: &Finish) -> Result<String, AllocError>
     ensures { IfOk result (λ line. string_bytes line ≡ line_of finish.now.status finish.now.fault) }
 {

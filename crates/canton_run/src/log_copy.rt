@@ -19,7 +19,7 @@ fn room_for(alloc: Global, sequencer: &Sequencer<'_>) -> Result<EntryList, Alloc
     EntryList::with_room(alloc, sequencer.len() as usize)
 }
 
-/// A copy of the sequencer's log.
+/// A copy of the sequencer's log, which lasts when the row where that lies is gone. An Err is want of memory.
 pub fn log_of(alloc: Global, sequencer: &mut Sequencer<'_>) -> Result<EntryList, AllocError>
     ensures same { sequencer.new ≡ sequencer.old }
     ensures log { IfOk result (λ log. log ≡ sequencer.old.list) }

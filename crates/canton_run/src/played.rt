@@ -7,8 +7,8 @@ use node_core::SubmitResultList;
 use trigger_rules::CausedList;
 use world_play::NodeList;
 
-/// The sequencer's log, the results of the submissions in script order, the length of the log at the end of both parts of each round, and
-/// what rules caused. The results of what was caused in a round stand behind those of its submissions.
+/// The record of a run: the sequencer's log, the results of the submissions in script order, the length of the log at the end of both parts of each
+/// round, and what rules caused. The results of what was caused in a round stand behind those of its submissions.
 #[derive(Drop)]
 pub struct RunRecord {
     pub log: EntryList,
@@ -25,7 +25,7 @@ pub struct Played<'r> {
 }
 
 impl Played<'_> {
-    /// The log alone. All else gives its memory back, of which a caller proves nothing.
+    /// The sequencer's log alone, for a caller that wants nothing else of the run. All else is dropped, and the caller needn't prove how.
     pub fn into_log(self) -> EntryList
         ensures { result ≡ (self.entry.record).log }
     {

@@ -164,8 +164,9 @@ fn play_both<
     Ok(PlayedRounds { world, answers })
 }
 
-/// Plays the rounds of a script on its new synchroniser. In each round first the participants restart that the round names, and then both its parts
-/// are played.
+/// Plays the rounds of a script on its new synchroniser, `world`. In each round first the participants restart that the round names, and then both its
+/// parts are played. The result has the synchroniser after them, the results of all submissions, the ends of the parts and what rules caused. An Err is
+/// want of memory.
 pub fn play_rounds<
     'r,
     R: Threads + Wait + Sync + RandomSource + AllocGlobal,

@@ -16,7 +16,8 @@ pub struct RunRemains {
 }
 
 impl RunRemains {
-    /// What a run was made of, put together.
+    /// The remains of a run, put together: where its log lay, what its participants know or, where that wasn't asked, what they kept, and the script's
+    /// setup and rounds.
     pub fn new(
         row: LogRow,
         views: NodeViewList,

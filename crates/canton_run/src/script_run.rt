@@ -26,7 +26,8 @@ use world_play::laws::sent_requests_open_by_the_rules;
 
 /// Plays the rounds of a script over a new synchroniser with its log in `row`, whose requests may need as many places of the log in all as the plan
 /// says. Once a round has settled its rules are asked, and what they cause is handed in and settles. A choice that `natives` has is asked of them in
-/// place of the language by the thread that plays the rounds, and by no worker. In the end every participant, paused or not, reads the whole log.
+/// place of the language by the thread that plays the rounds, and by no worker. In the end every participant, paused or not, reads the whole log. An
+/// Err is want of memory.
 pub fn run_script<
     'r,
     R: Threads + Wait + Sync + RandomSource + AllocGlobal,

@@ -39,8 +39,8 @@ use trigger_loop::fire_each;
 use trigger_rules::{Answering, CausedList, Rules};
 use world_play::{World, begin_round, settle};
 
-/// Rules are asked in the round of a number, one after another: the round's participants are paused once more, and all others read to the
-/// end of the log first. After want of memory some rules may have fired.
+/// Asks the rules, one after another, in the round with the number `number`: its participants are paused once more, and all others read to the end of the
+/// log first. The result is what the rules cause, which isn't handed in yet. After want of memory some rules may count as fired.
 pub fn ask_rules<A: Answering>(
     alloc: Global,
     world: &mut World<'_>,
@@ -163,8 +163,8 @@ fn append_caused(caused: &mut CausedList, more: CausedList) -> Result<(), AllocE
     Ok(())
 }
 
-/// Hands in what rules caused in a round, in order, and settles the world. What was caused, the results and the end of this part are put behind those
-/// of `answers`. After want of memory some of that may be done.
+/// Plays the second part of a round: hands in what rules caused in it, in order, and settles the world. What was caused, the results and the end of this
+/// part are put behind those of `answers`. After want of memory some of that may be done.
 pub fn play_caused<'r>(
     alloc: Global,
     natives: &'r NativeList,

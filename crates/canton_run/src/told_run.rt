@@ -46,7 +46,8 @@ fn capacity_of(job: Job) -> u64
     }
 }
 
-/// Runs the script and makes what the job writes of it.
+/// Runs the script and makes what the job writes of it, of which nothing is written yet. `answer` says what the script's rules do about a contract. An
+/// Err is want of memory.
 pub fn told_run<
     R: Threads + Wait + Sync + RandomSource + AllocGlobal,
     G: Gate + Sync,

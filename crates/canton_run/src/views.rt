@@ -19,7 +19,7 @@ fn restarts(round: &Round, participant: ParticipantId) -> bool
     is_among(round.restarts.as_slice(), participant.0 as usize)
 }
 
-// Whether one of the rounds does.
+// Whether one of the rounds restarts the participant.
 fn is_restarted(rounds: &[Round], participant: ParticipantId) -> bool
     ensures { result ≡ is_restarted rounds.now participant }
 {
@@ -34,7 +34,8 @@ fn view_in(alloc: Global, rounds: &RoundList, node: Node<'_>) -> Result<NodeView
     NodeView::taken(alloc, node, restarted)
 }
 
-/// What each of the participants knows at its clean place once these rounds were played, in their order. What they know is taken out of them.
+/// What each of the participants knows at its clean place once these rounds were played, in their order. What they know is taken out of them, and the
+/// rounds tell which of them restarted.
 pub fn views_of(
     alloc: Global,
     rounds: &RoundList,
@@ -65,7 +66,7 @@ fn each_active(alloc: Global, nodes: &[Node<'_>]) -> Result<ActiveRowLists, Allo
     Ok(actives)
 }
 
-/// The active contracts of each participant at its clean place.
+/// The active contracts of each participant at its clean place, in the order of the participants.
 #[tactic(auto, using(crate::proofs::Actives::actives_are))]
 pub fn actives_of(alloc: Global, nodes: &[Node<'_>]) -> Result<ActiveRowLists, AllocError>
     ensures { (rounds : List ScriptRound) → IfOk result (λ actives. actives ≡ actives_in (map (view_in rounds) nodes.now)) }
@@ -73,7 +74,8 @@ pub fn actives_of(alloc: Global, nodes: &[Node<'_>]) -> Result<ActiveRowLists, A
     each_active(alloc, nodes)
 }
 
-/// What the participants kept, when nobody asks them any more.
+/// What is left of each participant once nobody asks it any more, in their order. A program that ends forgets that at once, where giving it back piece
+/// by piece would take long. An Err is want of memory for the list.
 pub fn remains_of(alloc: Global, nodes: Vec<Node<'_>>) -> Result<Vec<NodeRemains>, AllocError> {
     let mut remains = Vec::new(alloc);
     for node in nodes {

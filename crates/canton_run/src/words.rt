@@ -7,7 +7,7 @@ use ledger_terms::Text;
 use std::alloc::{AllocError, Global};
 use std::io::ErrorKind;
 
-/// The words that stand after the program's name.
+/// The words of the command line that stand after the program's name, which is the first of `all`; none where that is missing.
 pub fn words_after_name(alloc: Global, all: &[String]) -> Result<WordList, AllocError>
     ensures { IfOk result (λ words. words ≡ map string_bytes (drop 1 all.now)) }
 {
@@ -21,7 +21,7 @@ pub fn words_after_name(alloc: Global, all: &[String]) -> Result<WordList, Alloc
     Ok(words)
 }
 
-/// The status where the words can't be had: 2 where they are no text, else 70.
+/// The status of a program whose words can't be had, by the kind of the error: 2 where the words are no text, and else 70, as for want of memory.
 pub fn status_without_words(why: ErrorKind) -> u8
     ensures text { result ≡ 2 ↔ why ≡ InvalidData }
     ensures memory { result ≢ 2 → result ≡ 70 }

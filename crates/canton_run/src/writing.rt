@@ -6,7 +6,8 @@ ghost use Rattle.cn_io.specs.Faults.{Rose};
 
 use cn_io::{Sink, write_all};
 
-/// Writes the bytes to the sink. The status is 0 where all of them were written, and 5 where only the first of them were.
+/// Writes the bytes to the sink, and gives the status: 0 where all of them were written, and 5 where a write failed and only a beginning of them was
+/// written.
 pub fn write<K: Sink>(sink: &mut K, bytes: &[u8]) -> u8
     ensures status { (result ≡ 0) ⊎ (result ≡ 5) }
     ensures done { result ≡ 0 → Appends (K.held sink.old) (K.held sink.new) bytes.now }

@@ -4,6 +4,7 @@ use Rattle.std.specs.List.{list_any}
 use Rattle.std.specs.Str.{bytes_eq, is_utf8}
 use Rattle.clap.specs.Lexer.{long_of, short_of}
 
+-- a word as its bytes
 abbrev pub Text : Type 0
 Text = List ℕ
 
@@ -11,52 +12,56 @@ Text = List ℕ
 abbrev pub Argument : Type 0
 Argument = Text × Text
 
+-- each of these words is UTF-8
 abbrev pub AreUtf8 : List Text → Type 0
 AreUtf8 [] = Unit {0}
 AreUtf8 (word ∷ words) = (is_utf8 word ≡ true) × AreUtf8 words
 
 -- ---- one word
 
--- What a word looks like: `--`; `--name` or `--name=text`; another word with a hyphen before something; and any other word, a
--- lone hyphen among them.
+-- What a word looks like: `--`; `--name` or `--name=text`; another word with a hyphen before something; and any other word, a lone hyphen among them.
 pub data Form : Type 0 where
   ending : Form
   option : Text → Option Text → Form
   flag : Form
   plain : Form
 
--- the form of a word other than `--`, by what `clap` finds behind two hyphens, and behind one
+-- The form of a word other than `--`, by what `clap` finds behind two hyphens, a name with a text or without one, and by what it finds behind one
+-- hyphen. None is nothing.
 abbrev pub form_behind : Option (Text × Option Text) → Option Text → Form
 form_behind (Some named) short = option named.0 named.1
 form_behind None (Some letters) = flag
 form_behind None None = plain
 
+-- the form of a word
 abbrev pub form_of : Text → Form
 form_of word = if bytes_eq word (codes "--") then ending else form_behind (long_of word) (short_of word)
 
 -- ---- arguments
 
+-- whether a name is that of an option, `workers` or `log`
 abbrev pub is_option : Text → Bool
 is_option name = bytes_eq (codes "workers") name || bytes_eq (codes "log") name
 
--- the positionals, in their order
+-- the names of the positionals, in their order
 abbrev pub positionals : List Text
 positionals = codes "count" ∷ codes "seed" ∷ []
 
+-- whether an argument of this name is among those that are given
 abbrev pub is_given : Text → List Argument → Bool
 is_given name given = list_any (λ (a : Argument). bytes_eq a.0 name) given
 
--- the text that an argument is given
+-- the text that the argument of this name is given, None where it isn't given
 abbrev pub text_of : Text → List Argument → Option Text
 text_of name [] = None
 text_of name (a ∷ given) = if bytes_eq a.0 name then Some a.1 else text_of name given
 
--- what `after` makes of the arguments with this option and its text added; none where the name isn't an option's or is given already
+-- What `after` makes of the arguments with this option and its text added; None where the name isn't an option's or is given already.
 abbrev pub with_option : List Argument → Text → Text → (List Argument → Option (List Argument)) → Option (List Argument)
 with_option given name text after =
     if is_option name && not (is_given name given) then after (given ++ (name, text) ∷ []) else None
 
--- what `after` makes of the arguments with this text as the first positional that is left, and of the others left; none where none is
+-- What `after` makes of the arguments with this text as the first positional that is left, and of the others left; None where none is.
 abbrev pub with_positional : List Argument → List Text → Text → (List Argument → List Text → Option (List Argument))
     → Option (List Argument)
 with_positional given [] text after = None
@@ -64,14 +69,15 @@ with_positional given (name ∷ left) text after = after (given ++ (name, text) 
 
 -- ---- all words
 
--- The arguments that are given, with those of the words after `--`, each of which is a positional.
+-- The arguments `given` with those of the words after `--`, each of which is a positional, as `left` names those to come; None where there are too
+-- many.
 abbrev pub positionals_from : List Argument → List Text → List Text → Option (List Argument)
 positionals_from given left [] = Some given
 positionals_from given left (word ∷ words) =
     with_positional given left word (λ given' left'. positionals_from given' left' words)
 
--- How to go on behind a word, by its form: `last` behind `--`, `joined` with an option and its text, `apart` with an option whose text is
--- to come, `other` with a plain word. A flag is at fault.
+-- How to go on behind a word, by its form: `last` behind `--`, `joined` with an option and its text, `apart` with an option whose text is to come,
+-- `other` with a plain word. A flag is at fault, which None says.
 abbrev pub by_form : Form → (Unit {0} → Option (List Argument)) → (Text → Text → Option (List Argument))
     → (Text → Option (List Argument)) → (Unit {0} → Option (List Argument)) → Option (List Argument)
 by_form ending last joined apart other = last tt
@@ -80,14 +86,14 @@ by_form (option name None) last joined apart other = apart name
 by_form flag last joined apart other = None
 by_form plain last joined apart other = other tt
 
--- `other` for a plain word; a word of another form is at fault
+-- what `other` gives for a plain word; a word of another form is at fault, which None says
 abbrev pub if_plain : Form → (Unit {0} → Option (List Argument)) → Option (List Argument)
 if_plain plain other = other tt
 if_plain _ other = None
 
 abbrev mutual
-  -- The arguments that are given, with those of the words; `left` are the positionals that are still to come. An option's text
-  -- is joined to it by `=`, or is the next word.
+  -- The arguments `given` with those of the words; `left` names the positionals to come. An option's text is joined to it by `=`, or is the next
+  -- word. None where the words are at fault.
   pub arguments_from : List Argument → List Text → List Text → Option (List Argument)
   arguments_from given left [] = Some given
   arguments_from given left (word ∷ words) =
@@ -97,12 +103,13 @@ abbrev mutual
       (λ name. text_from given left name words)
       (λ _. with_positional given left word (λ given' left'. arguments_from given' left' words))
 
-  -- The same, where the next word is the text of the named option. It doesn't begin with a hyphen.
+  -- The arguments `given` with those of the words, the first of which has to be the text of the option `name` and no word with a hyphen before
+  -- something; None where there is none or the words are at fault.
   pub text_from : List Argument → List Text → Text → List Text → Option (List Argument)
   text_from given left name [] = None
   text_from given left name (word ∷ words) =
       if_plain (form_of word) (λ _. with_option given name word (λ given'. arguments_from given' left words))
 
--- the arguments that the words say, in any order; none where the words are at fault
+-- The arguments that the words say, in any order; None where the words are at fault.
 abbrev pub arguments_of : List Text → Option (List Argument)
 arguments_of words = arguments_from [] positionals words

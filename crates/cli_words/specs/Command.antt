@@ -10,15 +10,15 @@ use Rattle.clap.specs.declared.builder.action.ArgAction.TheVariants.{Set}
 use Rattle.cli_words.specs.Arguments.{Text}
 use Rattle.cli_words.specs.Jobs.{Given}
 
--- an option with one text
+-- the rule by which `clap` reads the option of this name, which is given one text
 abbrev pub option_rule : Text → Rule
 option_rule name = record (new_rule name) { long = Some name; action = Some Set }
 
--- a positional
+-- the rule by which `clap` reads the positional of this name
 abbrev pub positional_rule : Text → Rule
 positional_rule name = record (new_rule name) { action = Some Set }
 
--- the command with these arguments, and no help
+-- `clap`'s command with these arguments, and no help
 abbrev app_with : List Rule → App
 app_with rules =
     record {
@@ -26,20 +26,20 @@ app_with rules =
       subs = [];
     }
 
--- the options of all commands
+-- the command with the options alone, to which `words_app` adds the positionals
 abbrev pub options_app : App
 options_app = app_with (option_rule (codes "workers") ∷ option_rule (codes "log") ∷ [])
 
--- the arguments of all commands
+-- the command by which `clap` reads the words after every command of the program: both options and both positionals
 abbrev pub words_app : App
 words_app =
     app_with (option_rule (codes "workers") ∷ option_rule (codes "log") ∷ positional_rule (codes "count") ∷ positional_rule (codes "seed") ∷ [])
 
--- what is wrong with the words; nothing where `clap` takes them
+-- what `clap` finds wrong with the words; nothing where it takes them
 unfoldable pub words_fault : List Text → Kinds
 words_fault words = fault_of words_app words
 
--- what each argument was given
+-- what each argument was given by the words, as `clap` has it, a row for each
 unfoldable pub words_rows : List Text → List Row
 words_rows words = matches_of words_app words
 

@@ -35,7 +35,7 @@ fn command<'a>(alloc: Global) -> Result<Command<'a>, AllocError>
     command.arg(count)?.arg(seed)
 }
 
-/// What the words say.
+/// The arguments that the words after a command give, as `clap` reads them: Usage where they are at fault.
 pub(crate) fn read_arguments<'a>(
     alloc: Global,
     words: &'a [&'a str],

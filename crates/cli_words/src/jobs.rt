@@ -99,7 +99,7 @@ fn gen_of(given: &ArgMatches<'_>) -> Option<Job>
     })
 }
 
-/// The job of a command.
+/// The job of the command with this name and the arguments that are given; None where there is no such command or its arguments are at fault.
 pub(crate) fn job_by(command: &str, given: &ArgMatches<'_>) -> Option<Job>
     ensures job { result ≡ job_by command.now (matches_given given.now) }
     ensures within { IfSome result IsWithin }

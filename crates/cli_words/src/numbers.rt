@@ -36,7 +36,7 @@ fn number_in(low: u64, high: u64, text: &str) -> Option<u64>
     }
 }
 
-/// The number of an argument that may be left out.
+/// The number of an argument that may be left out, `default` where it is; None where its text writes no number from `low` to `high`.
 pub(crate) fn number_or(default: u64, low: u64, high: u64, text: Option<&str>) -> Option<u64>
     requires { default ≤ high }
     ensures number { result ≡ number_or default low high (text_now text.entry) }
@@ -49,7 +49,7 @@ pub(crate) fn number_or(default: u64, low: u64, high: u64, text: Option<&str>) -
     }
 }
 
-/// The number of an argument that may not.
+/// The number of an argument that may not be left out; None where it is, or its text writes no number from `low` to `high`.
 pub(crate) fn number_of(low: u64, high: u64, text: Option<&str>) -> Option<u64>
     ensures number { result ≡ number_of low high (text_now text.entry) }
     ensures within { IfSome result (λ n. (low ≤ n) × (n ≤ high)) }

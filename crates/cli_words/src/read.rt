@@ -28,7 +28,8 @@ fn texts_of(alloc: Global, words: &[Text]) -> Result<Vec<&str>, AllocError>
 /// `audit`, or `gen COUNT SEED [--workers N]`.
 ///
 /// The first word is the command. Options and positionals stand behind it in any order; an option stands once at most, and its
-/// number is the next word or is joined to it by `=`. Behind `--` no word is an option.
+/// number is the next word or is joined to it by `=`. Behind `--` no word is an option. Words that aren't of this form, or have a number outside
+/// its limits, are Usage.
 #[tactic(auto, unfolding(crate::specs::Jobs::job_of))]
 pub fn read_words(alloc: Global, words: &WordList) -> Result<Job, WordsFault>
     ensures job { IfOk result (λ job. job_of words.now ≡ Some job) }

@@ -13,12 +13,18 @@ use Rattle.world_model.specs.Rounds.{Why}
 use Rattle.world_play.specs.Results.{IsPlainResult, results_of}
 use Rattle.sync_shared.specs.Clients.{Seen}
 
--- What has come back of participant p's client, which had seen `first` when it began: it has a result for each of `submits` that is its
--- participant's, in order, and what each says is so.
+-- What participant p's client, which had seen the entries `first` when it began, has come back with: a result for each submission among `submits` that
+-- is its participant's, in order, and each result is right by what the client had seen. `now` and `paused` are the round's time and who is paused in
+-- it.
 pub record IsServed (m : Machine) (why : Why SubmitFault) (now : ℕ) (paused : List ParticipantId) (first : List Entry) (submits : List Submission)
     (p : ParticipantId) (client : Seen) (results : List SubmitResult) : Type 0 where
+  -- the client is that of participant p
   pub mine : client.me ≡ p
+  -- each of its submissions has a result
   pub many : length results ≡ length (submissions_of p submits)
+  -- no result is or holds want of memory
   pub plain : All IsPlainResult results
+  -- what each result says is so, by what the client had seen when it was answered
   pub answers : ClientAnswers m why now paused first (results_of (submissions_of p submits) results) client.list
+  -- it was given a ticket for each request that was sent
   pub counted : client.tickets ≡ inputs.tickets (results_of (submissions_of p submits) results)

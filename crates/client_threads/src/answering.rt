@@ -17,7 +17,7 @@ use std::alloc::AllocError;
 use std::sync::Wait;
 use sync_shared::{Client, Session, Shared, Ticket};
 
-// The request was sent. Its client asks once what became of it.
+// The result of a request that was sent. Its client asks once what became of it.
 fn sent<'r, S: Session, R: Wait>(
     rt: &R,
     shared: &Shared<'r, S>,
@@ -38,7 +38,7 @@ fn sent<'r, S: Session, R: Wait>(
     })
 }
 
-// Nothing was sent. Want of memory is no answer to a submission.
+// The result where nothing was sent. Want of memory is no result of a submission.
 fn refused(refusal: SubmitRefusal) -> Result<SubmitResult, AllocError>
     requires plain { HoldsNoMemory refusal.fault }
     ensures refused { IfOk result (λ answer. refused_at refusal.read_to (fault_of refusal.fault) ≡ Some (result_of answer)) }
@@ -52,8 +52,9 @@ fn refused(refusal: SubmitRefusal) -> Result<SubmitResult, AllocError>
     }
 }
 
-/// What comes of a submission of the client's participant. After its request was sent the client has asked once what became
-/// of it.
+/// Hands the submission in for the client's participant, at whose name it has to be. The result has the place of the request that was sent, or why none
+/// was; an Err is want of memory. After a request was sent the client asks once what became of it, which isn't told. `rt` is what the thread waits by
+/// at the locks.
 pub fn answer<'r, S: Session, R: Wait>(
     rt: &R,
     shared: &Shared<'r, S>,

@@ -56,7 +56,7 @@ fn work_until<'a, 'r, S: Session + Send + Sync, R: Threads + Wait + Sync, G: Gat
     }
 }
 
-// How often lanes begin anew beside so many submissions.
+// How many waves of the lanes there are beside so many submissions.
 fn waves_of(submits: usize) -> u32 {
     if submits < MANY { 1 } else { WAVES_OF_MANY }
 }
@@ -120,8 +120,9 @@ fn serve_by_threads<
     all_of(alloc, brought?)
 }
 
-/// The clients submit, each what is its participant's, beside as many lanes as `workers` has, which go on until they find nothing more to
-/// do. Where there are less than two submissions no thread is started, since it would cost more than it saves, and no lane works.
+/// Each client submits what is its participant's of `submits`, beside as many lanes as `workers` has, which go on until they find nothing more to do.
+/// The result has each client, in the order of `clients`, with the results of its submissions; an Err is want of memory of one of them or for the
+/// threads. Where there are fewer than two submissions no thread is started, since it would cost more than it saves, and no lane works.
 pub fn serve_beside<
     'r,
     S: Session + Send + Sync,

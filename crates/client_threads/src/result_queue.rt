@@ -22,7 +22,7 @@ impl Model for ResultQueue {
 }
 
 impl ResultQueue {
-    /// A queue of no results.
+    /// A queue without results, which takes memory from `alloc` once there are some.
     pub fn new(alloc: Global) -> ResultQueue
         ensures { result ≡ [] }
     {
@@ -31,7 +31,7 @@ impl ResultQueue {
         }
     }
 
-    /// Puts a result at the end.
+    /// Puts a result at the end. After want of memory nothing is said of the queue.
     pub fn push(&mut self, answer: SubmitResult) -> Result<(), AllocError>
         ensures ok { OnOk result (self.new ≡ self.old ++ answer ∷ []) }
     {
@@ -39,7 +39,7 @@ impl ResultQueue {
         Ok(())
     }
 
-    /// Takes the first result away.
+    /// Takes the first result out; None where the queue is empty.
     pub fn pop(&mut self) -> Option<SubmitResult>
         ensures some { IfSome result (λ first. self.old ≡ first ∷ self.new) }
         ensures none { IfNone result (self.old ≡ []) }

@@ -59,7 +59,8 @@ fn serve<'r, S: Session, R: Wait>(
     Ok(Served { client, results })
 }
 
-/// Lets each client submit its own of these submissions, one client after another.
+/// Lets each client submit what is its participant's of `submits`, one client after another in this thread. The result has each client, in the order of
+/// `clients`, with the results of its submissions; an Err is want of memory of one of them.
 pub fn serve_in_turn<'r, S: Session, R: Wait>(
     rt: &R,
     alloc: Global,
@@ -82,8 +83,8 @@ pub fn serve_in_turn<'r, S: Session, R: Wait>(
     Ok(all)
 }
 
-/// Lets each client submit its own of these submissions, each in a thread of its own where one can be started. What comes back of each
-/// client, in their order, may be want of memory.
+/// Lets each client submit what is its participant's of `submits`, each in a thread of its own where `rt` can start one. The result has for each client,
+/// in the order of `clients`, either the client with the results of its submissions or want of memory; the outer Err is want of memory for the list.
 pub fn serve_each<'r, S: Session + Send + Sync, R: Threads + Wait + Sync>(
     rt: &R,
     alloc: Global,

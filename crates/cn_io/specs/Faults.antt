@@ -1,14 +1,14 @@
 -- The count of faults of a source or a sink.
 use Rattle.std.specs.Prelude.{ℕ, ◌+◌, ◌-◌, ◌^◌, ◌≤◌, min}
 
--- the greatest u64
+-- the greatest u64, at which the count of faults stands still
 abbrev pub greatest : ℕ
 greatest = 2 ^ 64 - 1
 
--- one more, as far as a u64 counts
+-- the count n and one more, which stands still at the greatest u64
 abbrev pub counted : ℕ → ℕ
 counted n = min (n + 1) greatest
 
--- the count rose, or it stands at the greatest u64
+-- The count of faults rose from `old` to `new`, or it stands at the greatest u64, where it can't rise.
 abbrev pub Rose : ℕ → ℕ → Type 0
 Rose old new = counted old ≤ new

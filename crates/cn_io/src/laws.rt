@@ -5,7 +5,7 @@ ghost use Rattle.cn_io.specs.declared.failed.Failed.{Failed};
 
 use crate::sink::Sink;
 
-/// Where a put that takes bytes takes all that it is offered, a text is written by one put.
+/// Where each put that takes bytes takes all that it is offered, a text that was written whole, and isn't empty, was written by one put.
 pub fn whole_puts_are_one<K: Sink>()
     ensures { (sink sink' : K) → (bytes : List ℕ) → (result : Result (Unit {0}) Failed)
         → ((before after : K) → (from : List ℕ) → (n : ℕ) → K.may_put before from (Ok n) after → n ≡ length from)

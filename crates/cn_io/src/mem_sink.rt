@@ -39,7 +39,8 @@ impl Model for MemSink {
 }
 
 impl MemSink {
-    /// An empty sink that was not called yet. `fails` lists calls by their number, from 1.
+    /// An empty sink that was not called yet. `piece` is how many bytes a call takes at most, and `fails` lists the calls that fail by their
+    /// number, from 1.
     pub fn new(alloc: Global, piece: usize, fails: U64List) -> MemSink
         requires { 0 < piece }
         ensures { result ≡ record { held = []; room = 0; piece = piece; fails = fails; calls = 0; faults = 0 } }
@@ -53,7 +54,7 @@ impl MemSink {
         }
     }
 
-    /// Makes room for at least `n` more bytes.
+    /// Makes room for at least `n` more bytes, which then need no memory; after an error nothing has changed.
     pub fn reserve(&mut self, n: usize) -> Result<(), AllocError>
         ensures room { OnOk result (n ≤ self.new.room) }
         ensures same { self.new ≡ record self.old { room = self.new.room } }
@@ -62,7 +63,7 @@ impl MemSink {
         self.bytes.reserve(n)
     }
 
-    /// The bytes that the sink has taken.
+    /// The bytes that the sink has taken, in order.
     pub fn written(&self) -> &[u8]
         ensures { result.now ≡ self.now.held }
     {

@@ -22,7 +22,7 @@ impl<R: Read> Model for ReadSource<R> {
 }
 
 impl<R: Read> ReadSource<R> {
-    /// A source that has not failed yet.
+    /// A source over the reader `inner`, with a count of faults of 0.
     pub fn new(inner: R) -> ReadSource<R>
         ensures { result ≡ record { inner = inner; faults = 0 } }
     {

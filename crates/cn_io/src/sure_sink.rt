@@ -30,7 +30,7 @@ impl Model for SureSink {
 }
 
 impl SureSink {
-    /// An empty sink without room.
+    /// An empty sink without room, which takes nothing until `reserve` makes some.
     pub fn new(alloc: Global) -> SureSink
         ensures { result ≡ record { held = []; room = 0; faults = 0 } }
     {
@@ -40,7 +40,7 @@ impl SureSink {
         }
     }
 
-    /// Makes room for at least `n` more bytes.
+    /// Makes room for at least `n` more bytes; after an error nothing has changed.
     pub fn reserve(&mut self, n: usize) -> Result<(), AllocError>
         ensures room { OnOk result (n ≤ self.new.room) }
         ensures kept { self.old.room ≤ self.new.room }
@@ -50,7 +50,7 @@ impl SureSink {
         self.bytes.reserve(n)
     }
 
-    /// The bytes that the sink has taken.
+    /// The bytes that the sink has taken, in order.
     pub fn written(&self) -> &[u8]
         ensures { result.now ≡ self.now.held }
     {

@@ -6,7 +6,7 @@ use crate::source::Source;
 use ledger_terms::Bytes;
 use std::marker::Model;
 
-/// Copies the first bytes, at most `most`, to the front of `into`, and gives their number.
+/// Copies the first bytes of `rest`, as many as `into` has place for and at most `most`, to the front of `into`, and gives their number.
 pub(crate) fn copy_first(rest: &[u8], into: &mut [u8], most: usize) -> usize
     ensures count { result ≡ min (min (length rest.now) (length into.old)) most }
     ensures bytes { into.new ≡ take result rest.now ++ drop result into.old }
@@ -34,7 +34,7 @@ impl Model for SureSource {
 }
 
 impl SureSource {
-    /// A source that has given nothing yet.
+    /// A source over `bytes` that has given nothing yet.
     pub fn new(bytes: Bytes) -> SureSource
         ensures { result ≡ bytes }
     {

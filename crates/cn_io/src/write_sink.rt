@@ -22,7 +22,7 @@ impl<W: Write> Model for WriteSink<W> {
 }
 
 impl<W: Write> WriteSink<W> {
-    /// A sink that has not failed yet.
+    /// A sink over the writer `inner`, with a count of faults of 0.
     pub fn new(inner: W) -> WriteSink<W>
         ensures { result ≡ record { inner = inner; faults = 0 } }
     {

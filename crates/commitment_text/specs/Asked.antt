@@ -13,19 +13,19 @@ pub record NamedNode : Type 0 where
   pub name : List ℕ
   pub node : Participant
 
--- the participant as others see it
+-- The participant as another one sees it.
 abbrev pub counterparty_of : NamedNode → Counterparty
 counterparty_of named = record { number = named.number; name = named.name; knowledge = knowledge_of named.node }
 
--- the counterparty that the participant of a host is, and none where there is no such participant
+-- A list of the one counterparty that the participant p of a host is to others, and an empty one where there is no such participant.
 abbrev pub counterparty_at : ParticipantId → Host → Option Participant → List Counterparty
 counterparty_at p host None = []
 counterparty_at p host (Some node) = record { number = p; name = host.name; knowledge = knowledge_of node } ∷ []
 
--- the rows that were asked for are the participant's active contracts at their place
+-- The rows that were asked for are those of the participant's active contracts at their place.
 abbrev pub IsActiveAt : Participant → ActiveAt → Type 0
 IsActiveAt node at = at.rows ≡ (knowledge_of node).active_at at.place
 
--- all rows that were asked for are the participant's active contracts, each at its place
+-- All rows that were asked for are those of the participant's active contracts, each at its place.
 abbrev pub AreActiveAt : Participant → List ActiveAt → Type 0
 AreActiveAt node asked = All (IsActiveAt node) asked

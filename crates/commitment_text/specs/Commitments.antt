@@ -11,16 +11,16 @@ use Rattle.acs_commit.specs.Trees.{first_difference}
 use Rattle.commitment_text.specs.Counterparties.{Counterparty, counterparties_from}
 use Rattle.commitment_text.specs.Knowledge.{Knowledge}
 
--- the ids of the contracts that are active at a place for a participant with this knowledge, and of which the other hosts a stakeholder
+-- The ids of the contracts that are active at a place by what one participant knows, and of which the participant `other` hosts a stakeholder.
 abbrev pub ids_shared : Reading → (other : ParticipantId) → Knowledge → (place : ℕ) → List (List ℕ)
 ids_shared reading other knowledge place = shared_ids reading other (knowledge.active_at place)
 
--- `equal`, or `differ` with the number of the first bucket in which both differ
+-- The words for what comparing two participants found: `equal` where their hashes agree (None), or `differ` with the first bucket in which they differ.
 abbrev pub agreement_text : Option ℕ → List ℕ
 agreement_text None = codes "equal"
 agreement_text (Some bucket) = codes "differ " ++ decimal bucket
 
--- whether two sets of ids have one root, and where they haven't, the first bucket whose hashes differ
+-- The words for whether two participants' sets of ids have one root. Where they haven't, they name the first bucket whose hashes differ.
 abbrev pub agreement : (mine theirs : List (List ℕ)) → List ℕ
 agreement mine theirs = agreement_text (first_difference (set_of mine) (set_of theirs))
 
@@ -28,19 +28,19 @@ agreement mine theirs = agreement_text (first_difference (set_of mine) (set_of t
 abbrev pub place_text : (one other : List ℕ) → (place : ℕ) → List ℕ
 place_text one other place = codes "pair " ++ one ++ codes " " ++ other ++ codes " at " ++ decimal place
 
--- the line of two participants, one of which has forgotten the place at which they are compared: `pair P Q pruned N`, where N is a base
+-- The line of two participants, one of which has forgotten the place at which they are compared: `pair P Q pruned N`, where N is the base.
 abbrev pub pruned_text : (one other : List ℕ) → (base : ℕ) → List ℕ
 pruned_text one other base = codes "pair " ++ one ++ codes " " ++ other ++ codes " pruned " ++ decimal base ++ codes "\n"
 
--- how many contracts each of two participants shares with the other
+-- The part of a line that tells how many contracts each of two participants shares with the other: ` count A B `.
 abbrev pub counts_text : (mine theirs : ℕ) → List ℕ
 counts_text mine theirs = codes " count " ++ decimal mine ++ codes " " ++ decimal theirs ++ codes " "
 
--- how the line of two participants ends: both counts, and whether they commit to the same contracts
+-- How the line of two participants ends: both counts, and in the words `told` whether they commit to the same contracts.
 abbrev pub told_text : (mine theirs : ℕ) → (told : List ℕ) → List ℕ
 told_text mine theirs told = counts_text mine theirs ++ told ++ codes "\n"
 
--- how many ids each of two participants shares with the other, and whether both commit to the same ones
+-- How the line of two participants ends, of the ids that each shares with the other: how many these are, and whether both commit to the same ones.
 abbrev pub shared_text : (mine theirs : List (List ℕ)) → List ℕ
 shared_text mine theirs = told_text (length mine) (length theirs) (agreement mine theirs)
 
@@ -58,7 +58,8 @@ place_of one other = min (one.knowledge).clean (other.knowledge).clean
 abbrev pub base_of : (one other : Counterparty) → ℕ
 base_of one other = max (one.knowledge).base (other.knowledge).base
 
--- the line of two participants that are compared at a place, which may be below the greater of their bases
+-- The line of two participants that are compared at a place. Where that is below the base, which is the greater of both, the line says that one has
+-- forgotten what was active there.
 abbrev pub pair_since : Reading → (one other : Counterparty) → (base place : ℕ) → List ℕ
 pair_since reading one other base place =
     if nat_lt place base then pruned_text one.name other.name base else pair_at reading one other place
@@ -72,6 +73,6 @@ abbrev pub pairs_text : Reading → List Counterparty → List ℕ
 pairs_text reading [] = []
 pairs_text reading (one ∷ others) = flat_map (pair_text reading one) others ++ pairs_text reading others
 
--- the commitments of participants with what they know, in order of the topology
+-- The whole text of commitments, of participants with what they know, in order of the topology: a line of each two, and `end`.
 abbrev pub commitments_of : Reading → List Host → List Knowledge → List ℕ
 commitments_of reading hosts known = pairs_text reading (counterparties_from 0 hosts known) ++ codes "end\n"

@@ -14,12 +14,13 @@ pub record Counterparty : Type 0 where
   pub name : List ℕ
   pub knowledge : Knowledge
 
--- a participant with what it knows over a whole log, pruned to a base
+-- Participant p with its name, its base, and what it knows over a whole log.
 abbrev pub counterparty_over : Reading → Params → List Entry → ParticipantId → (name : List ℕ) → (base : ℕ) → Counterparty
 counterparty_over reading params log p name base =
     record { number = p; name = name; knowledge = knowledge_over reading params p base (inbox reading p log) }
 
--- each participant, the first of which has index p, with its host's name and what it knows
+-- Each of these participants, the first of which has index p, with the name of its host and what it knows. Where one list is longer, the
+-- rest of it is left out.
 abbrev pub counterparties_from : ParticipantId → List Host → List Knowledge → List Counterparty
 counterparties_from p [] known = []
 counterparties_from p (host ∷ hosts) [] = []

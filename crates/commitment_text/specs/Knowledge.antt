@@ -15,31 +15,31 @@ pub record Knowledge : Type 0 where
   pub clean : ℕ
   pub active_at : (place : ℕ) → List ActiveRow
 
--- what a participant knows over its inbox that is pruned to a base
+-- What participant p knows of active contracts over its whole inbox, beside its base. The text of commitments tells nothing of places below that.
 abbrev pub knowledge_over : Reading → Params → ParticipantId → (base : ℕ) → List Item → Knowledge
 knowledge_over reading params p base items =
     record { base = base; clean = clean params items; active_at = λ place. node_active reading p items place }
 
--- what a participant knows over an inbox that begins at its base, where it left this start
+-- What participant p knows of active contracts over the items that it keeps, where its inbox left the start at its base.
 abbrev pub knowledge_kept : Reading → Params → ParticipantId → (base : ℕ) → Start → List Item → Knowledge
 knowledge_kept reading params p base start items =
     record { base = base; clean = clean params items; active_at = λ place. active_kept reading p start items place }
 
--- what a participant knows over the inbox that it keeps
+-- What a participant knows of active contracts over the inbox that it keeps.
 abbrev pub knowledge_of : Participant → Knowledge
 knowledge_of p = knowledge_kept (reading_of p) (params_of p) p.me p.base p.start (items_of p)
 
--- what `count` participants, the first of which has index p, know over a whole log, each pruned to its base
+-- What `count` participants, the first of which has index p, know of active contracts over a whole log, each with its base.
 abbrev pub knowledge_from : Reading → Params → List Entry → (bases : ParticipantId → ℕ) → ParticipantId → (count : ℕ) → List Knowledge
 knowledge_from reading params log bases p zero = []
 knowledge_from reading params log bases p (suc count) =
     knowledge_over reading params p (bases p) (inbox reading p log) ∷ knowledge_from reading params log bases (suc p) count
 
--- what each participant knows over a whole log, in order of the topology
+-- What each of all `hosts` participants knows of active contracts over a whole log, in order of the topology, each with its base.
 abbrev pub each_knowledge : Reading → Params → List Entry → (bases : ParticipantId → ℕ) → (hosts : ℕ) → List Knowledge
 each_knowledge reading params log bases hosts = knowledge_from reading params log bases 0 hosts
 
--- both knowledges have one base and one clean place, and at each place from the base on the same active contracts
+-- What two participants know is alike: they have one base and one clean place, and at each place from the base on the same active contracts.
 pub record KnowsAlike (a b : Knowledge) : Type 0 where
   pub base : a.base ≡ b.base
   pub clean : a.clean ≡ b.clean

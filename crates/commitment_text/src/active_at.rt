@@ -15,7 +15,7 @@ pub(crate) struct ActiveAt {
     pub rows: ActiveRowList,
 }
 
-/// The active contracts at a place, where they were asked for.
+/// The active contracts at a place, where the participant was asked for them, and none where it wasn't.
 pub(crate) fn asked_at(asked: &[ActiveAt], place: u64) -> Option<&ActiveRowList>
     ensures { (node : Participant) → AreActiveAt node asked.now → IfSome result (λ rows. rows.now ≡ (knowledge_of node).active_at place) }
 {
@@ -27,7 +27,7 @@ pub(crate) fn asked_at(asked: &[ActiveAt], place: u64) -> Option<&ActiveRowList>
     None
 }
 
-/// Asks a participant for its active contracts at a place, where it wasn't asked for them before.
+/// Asks a participant for its active contracts at a place and puts them behind those in `asked`. Where they are there already it does nothing.
 pub(crate) fn ask(
     alloc: Global,
     node: &Node<'_>,

@@ -62,7 +62,8 @@ fn asked_beside(
 }
 
 impl<'n, 's> AskedNode<'n, 's> {
-    /// The participant with this number among `nodes`, which is asked here for all that it is compared by with the others.
+    /// The participant with this number and this name, which is that of `nodes` at that index. It is asked here for its active contracts at all
+    /// places at which it is compared with the others.
     pub(crate) fn new(
         alloc: Global,
         number: ParticipantId,
@@ -104,7 +105,7 @@ impl<'n, 's> AskedNode<'n, 's> {
         node.clean()
     }
 
-    /// The ids of the participant's active contracts at a place of which the other participant hosts a stakeholder.
+    /// The ids of the participant's active contracts at a place of which the participant `other` hosts a stakeholder.
     pub(crate) fn ids_shared(
         &self,
         alloc: Global,

@@ -43,7 +43,7 @@ pub fn forgotten_places_are_told()
         → pair_text reading one other ≡ pruned_text one.name other.name (base_of one other) }
 {}
 
-/// The text tells nothing of what is active below a participant's base.
+/// The text tells nothing of what is active below a participant's base: where what participants know differs there alone, their texts are the same.
 pub fn commitments_tell_nothing_below_bases()
     ensures { (reading : Reading) (hosts : List Host) (known other : List Knowledge)
         → KnowAlike known other

@@ -141,7 +141,7 @@ fn put_pairs_with(
     Ok(())
 }
 
-/// Puts the line of each two of the participants at the end of `out`.
+/// Puts the line of each two of the participants, in their order, at the end of `out`.
 pub(crate) fn put_pairs(
     alloc: Global,
     out: &mut String,

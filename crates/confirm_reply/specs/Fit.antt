@@ -8,14 +8,16 @@ use Rattle.confirm_reply.specs.Opened.{IsCheckable}
 use Rattle.confirm_reply.specs.Tried.{Matter}
 use Rattle.confirm_reply.specs.declared.trial.Trial.{Trial}
 
--- what stands at a number can be checked
+-- the action at the number n of these trees, which are all that is opened in pre-order, can be checked, if there is one
 abbrev pub IsCheckableAt : Packages → List (Act × Actions) → ℕ → Type 0
 IsCheckableAt packages trees n = (tree : Act × Actions) → slice_get trees n ≡ Some tree → IsCheckable packages tree.0 tree.1
 
+-- what the definitions try of a trial: its nodes as trees, its core, and whether its view is a root view
 abbrev pub matter_of : {N : Type 0} {T : N → Type 0} → Trial N T → Matter
 matter_of trial = record { trees = trees_in trial.nodes.now; core = trial.core.now; is_root = trial.is_root }
 
--- The trial can be made: what stands at the numbers of its core can be checked, and the actions that it has are those of its nodes.
+-- What is asked of a trial: the actions at the numbers of its core can be checked, `earlier` has the actions of its nodes, and its core has no more
+-- actions than a verdict can number.
 pub record IsFit {N : Type 0} {T : N → Type 0} (trial : Trial N T) : Type 0 where
   pub checkable : All (IsCheckableAt trial.input.now.setup.now.checked (trees_in trial.nodes.now)) trial.core.now
   pub earlier : trial.earlier.now ≡ acts_of trial.nodes.now

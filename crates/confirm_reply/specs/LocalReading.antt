@@ -12,11 +12,12 @@ use Rattle.interpret.specs.Ids.{is_authentic}
 use Rattle.interpret.specs.Language.{the_language}
 use Rattle.interpret.specs.Conforming.{conforms}
 
+-- whether a host, where there is one, has this name; false of None
 abbrev pub has_name : Option Host → List ℕ → Bool
 has_name None name = false
 has_name (Some host) name = same_name host.name name
 
--- whether the participant at an index has this name
+-- whether the participant at an index (second argument) has this name; false where none stands there
 abbrev pub is_named_at : List Host → ℕ → List ℕ → Bool
 is_named_at hosts p name = has_name (slice_get hosts p) name
 

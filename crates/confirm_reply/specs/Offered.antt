@@ -10,18 +10,18 @@ use Rattle.view_split.specs.Placed.{shown_by}
 use Rattle.confirm_reply.specs.declared.shown.Shown.{Shown}
 use Rattle.confirm_reply.specs.declared.shown.Shown.TheVariants.{Fixed, Open}
 
--- why each view is rejected, where the envelope opens nothing
+-- the reason for which each view is rejected where an envelope opens nothing, and None where it opens something
 abbrev pub reason_of : Offer → Option Reason
 reason_of Mismatch = Some RootMismatch
 reason_of Missing = Some ViewMissing
 reason_of (reading.Open shown) = None
 
--- What is shown is what the envelope gives.
+-- What a check is shown is what the envelope gives: the same tree, or the reason for which each view is rejected.
 abbrev pub IsGivenBy : Offer → Shown → Type 0
 IsGivenBy offer (Fixed reason) = reason_of offer ≡ Some reason
 IsGivenBy offer (Open tree) = offer ≡ reading.Open (shown_by tree)
 
--- all that is opened
+-- the trees of all actions that are opened; none where nothing is
 abbrev pub roots_shown : Shown → Actions
 roots_shown (Fixed reason) = NoRoots
 roots_shown (Open tree) = (shown_by tree).roots

@@ -13,25 +13,27 @@ use Rattle.wire_form.specs.Spellable.{IsSpellableInstance}
 use Rattle.view_split.specs.Placed.{shown_by}
 use Rattle.view_split.specs.declared.opened_tree.OpenedTree.{OpenedTree}
 
--- the first view with a path among those that are opened
+-- the first of the opened views that has this path, and None where there is none
 abbrev pub view_at : Path → OpenedTree → Option OpenedView
 view_at path tree = find (λ (view : OpenedView). bytes_eq path view.path) (shown_by tree).views
 
--- an action with what stands below it has roles, as those directly below it have, and its instance can be spelled
+-- The checks of an action can be tried: it has roles, as those directly below it have, and its instance has a spelling, over which its id is hashed.
 pub record IsCheckable (packages : Packages) (act : Act) (below : Actions) : Type 0 where
   pub roles : has_roles packages act.action ≡ true
   pub below_roles : All (λ (child : Act). has_roles packages child.action ≡ true) (roots_of below)
   pub spellable : IsSpellableInstance (instance_of act.action)
 
+-- the actions of a core, without their numbers
 abbrev pub acts_of_core : List (ℕ × Act) → List Act
 acts_of_core core = map (λ (a : ℕ × Act). a.1) core
 
+-- all these actions have roles by the packages
 abbrev pub AllHaveRoles : Packages → List Act → Type 0
 AllHaveRoles packages acts = All (λ (act : Act). has_roles packages act.action ≡ true) acts
 
--- The instances of the view's core can be spelled, and the core has no more actions than a verdict can number. Where these and
--- the first actions of the views directly below have roles, so has all that stands directly below an action of the core: it is
--- one of them, in every tree that is opened.
+-- What is asked of a view before its check: the instances of its core have spellings, the core has no more actions than a verdict can number, and
+-- where its actions and the first ones of the views directly below have roles, so has all that stands directly below one of the core. The last holds
+-- of every opened tree whose holes are filled.
 pub record CanBeChecked (packages : Packages) (shown : Shown) (view : OpenedView) : Type 0 where
   pub spellable : All (λ (a : ℕ × Act). IsSpellableInstance (instance_of (a.1).action)) view.core
   pub few : length view.core ≤ 65536

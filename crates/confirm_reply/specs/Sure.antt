@@ -11,13 +11,13 @@ use Rattle.view_split.specs.Placed.{shown_by}
 use Rattle.view_split.specs.declared.opened_tree.OpenedTree.{OpenedTree}
 use Rattle.confirm_reply.specs.Opened.{view_at}
 
--- the action has roles, and its contract's id can be told
+-- an action has roles by the packages, and its instance has a spelling, over which its id is hashed
 pub record IsSure (packages : Packages) (action : Action) : Type 0 where
   pub roles : has_roles packages action ≡ true
   pub spellable : IsSpellableInstance (instance_of action)
 
--- Each action that is opened has roles and an id that can be told, and a view with this path is opened, whose core has no more actions than a
--- verdict can number.
+-- The view with this path can be checked: it is opened, its core has no more actions than a verdict can number, and each action of the opened tree
+-- has roles and an instance with a spelling.
 pub record IsReady (packages : Packages) (tree : OpenedTree) (path : Path) : Type 0 where
   pub each : All (λ (act : Act). IsSure packages act.action) (acts (shown_by tree).roots)
   pub view : OpenedView

@@ -1,4 +1,4 @@
--- The reasons as they are tried, by what stands at an action's number.
+-- The reasons as they are tried, by what stands at an action's number, which is where it stands in pre-order among all that is opened.
 use Rattle.std.specs.Prelude.{ℕ, suc, Bool, false, List, [], ◌∷◌, Option, Some, None, option_map, if◌then◌else◌, not, ◌&&◌, ◌||◌, nat_eq, slice_get, take, map}
 use Rattle.ledger_terms.specs.declared.act.Act.{Act}
 use Rattle.ledger_terms.specs.Trees.{Actions}
@@ -20,15 +20,16 @@ use Rattle.confirm_reply.specs.Facts.{known_status, is_known_locked}
 use Rattle.confirm_reply.specs.LocalReading.{local_reading}
 use Rattle.confirm_reply.specs.declared.opened_input.OpenedInput.{OpenedInput}
 
--- a stakeholder of the action's contract is hosted
+-- whether the participant that checks hosts a stakeholder of the action's contract
 abbrev pub is_hosted : OpenedInput → Act → Bool
 is_hosted input act = has_hosted_stakeholder (local_reading input.setup.now.topology input.setup.now.checked) input.me act
 
+-- whether the requesters authorise the action; false where they aren't told
 abbrev pub is_requested : OpenedInput → Act → Bool
 is_requested input act = is_authorised_by_known (roles_in input.setup.now.checked) input.tree.now.requesters act.action
 
--- An action shows a reason, by what stands below it and before it. `asks` tells whether the requesters have to authorise it. No action shows
--- a reason that isn't one of these nine.
+-- Whether an action shows a reason to reject its view, by what stands below it and the opened actions before it. `asks` tells whether the requesters
+-- have to authorise it. No action shows a reason that isn't one of these nine.
 abbrev pub shows : OpenedInput → Reason → Act → (below : Actions) → (earlier : List Act) → (asks : Bool) → Bool
 shows input IdMismatch act below earlier asks = not (is_authentic act)
 shows input NotVetted act below earlier asks =
@@ -43,52 +44,59 @@ shows input NotAuthorised act below earlier asks =
     not (are_authorised_below (roles_in input.setup.now.checked) act.action below && (not asks || is_requested input act))
 shows input reason act below earlier asks = false
 
--- What a core is tried by: all that is opened in pre-order, each with what stands below it, and the numbers of the core.
+-- What a core is tried by: all that is opened in pre-order, each action with what stands below it, the numbers of the core's actions, and whether its
+-- view is a root view.
 pub record Matter : Type 0 where
   pub trees : List (Act × Actions)
   pub core : List ℕ
   pub is_root : Bool
 
+-- the actions of these trees, without what stands below each
 abbrev pub acts_in : List (Act × Actions) → List Act
 acts_in trees = map (λ (tree : Act × Actions). tree.0) trees
 
--- the number is that of the core's first action
+-- whether the number is that of the core's first action; false of the empty core
 abbrev pub is_first : List ℕ → ℕ → Bool
 is_first [] n = false
 is_first (first ∷ rest) n = nat_eq first n
 
+-- whether the action at number n, with what stands below it (last argument), shows the reason; false where none stands there
 abbrev pub tree_shows : OpenedInput → Matter → Reason → ℕ → Option (Act × Actions) → Bool
 tree_shows input matter reason n None = false
 tree_shows input matter reason n (Some tree) =
     shows input reason tree.0 tree.1 (take n (acts_in matter.trees)) (matter.is_root && is_first matter.core n)
 
+-- whether the action at number n of all that is opened shows the reason; false where none stands there
 abbrev pub shows_at : OpenedInput → Matter → Reason → ℕ → Bool
 shows_at input matter reason n = tree_shows input matter reason n (slice_get matter.trees n)
 
--- where the first of these numbers stands that passes the test
+-- the index in the core of the first number that passes the test, counted from 0, and None where none does
 abbrev pub place_shown : (ℕ → Bool) → List ℕ → Option ℕ
 place_shown test [] = None
 place_shown test (n ∷ ns) = if test n then Some 0 else option_map suc (place_shown test ns)
 
--- the same, where only the first number is tried
+-- Some 0 where the core's first number passes the test, else None; the other numbers aren't tried
 abbrev pub first_alone : (ℕ → Bool) → List ℕ → Option ℕ
 first_alone test [] = None
 first_alone test (n ∷ ns) = if test n then Some 0 else None
 
--- Where in the core the first action stands that shows the reason. Time and conformance are tried of the core's first action alone.
+-- The index in the core of the first action that shows the reason, and None where none does. Time and conformance are tried of the core's first
+-- action alone.
 abbrev pub place_of : OpenedInput → Matter → Reason → Option ℕ
 place_of input matter TimeSkew = first_alone (shows_at input matter TimeSkew) matter.core
 place_of input matter NotConformant = first_alone (shows_at input matter NotConformant) matter.core
 place_of input matter reason = place_shown (shows_at input matter reason) matter.core
 
+-- the nine reasons that an action may show, in the order in which they are tried
 abbrev pub all_reasons : List Reason
 all_reasons = IdMismatch ∷ NotVetted ∷ TimeSkew ∷ Locked ∷ Inactive ∷ NotFresh ∷ Unordered ∷ NotConformant ∷ NotAuthorised ∷ []
 
+-- the rejection for this reason where an action at this index of the core shows it, else the verdict that the other reasons give
 abbrev pub rejected_or : Reason → Option ℕ → LocalVerdict → LocalVerdict
 rejected_or reason None rest = rest
 rejected_or reason (Some place) rest = Reject reason place
 
--- the verdict where these reasons are tried one after another
+-- the verdict on a core where these reasons are tried one after another: the first that an action shows rejects, and Approve where none is shown
 abbrev pub verdict_after : OpenedInput → Matter → List Reason → LocalVerdict
 verdict_after input matter [] = Approve
 verdict_after input matter (reason ∷ rest) = rejected_or reason (place_of input matter reason) (verdict_after input matter rest)

@@ -61,7 +61,7 @@ fn put_child<'a>(
     }
 }
 
-/// What is left of a wanted path after one step.
+/// What is left of a wanted path after one step down. None where it doesn't lead this way.
 pub(crate) fn after_step(left: Option<&[u16]>, step: usize) -> Option<&[u16]>
     ensures { option_copied result ≡ after_step (option_copied left.entry) step }
 {
@@ -77,7 +77,7 @@ pub(crate) fn after_step(left: Option<&[u16]>, step: usize) -> Option<&[u16]>
     }
 }
 
-/// What is left of it after a path.
+/// What is left of a wanted path after all steps of another path. None where it doesn't begin with that.
 pub(crate) fn after_path<'p>(wanted: &'p [u16], path: &[u16]) -> Option<&'p [u16]>
     ensures { option_copied result ≡ after_path (Some wanted.now) path.now }
 {
@@ -88,7 +88,7 @@ pub(crate) fn after_path<'p>(wanted: &'p [u16], path: &[u16]) -> Option<&'p [u16
     left
 }
 
-/// Whether all of it was walked.
+/// Whether nothing is left to walk of a wanted path that led here. False of None.
 pub(crate) fn is_reached(left: Option<&[u16]>) -> bool
     ensures { result ≡ is_reached (option_copied left.entry) }
 {
@@ -180,7 +180,7 @@ fn found_among<'v>(
     Ok(None)
 }
 
-/// The first view with a path, over the trees of all that is opened.
+/// The view with this path, over the numbered trees of all that is opened. None where there is none.
 pub(crate) fn found_at<'v>(
     alloc: Global,
     views: &'v PlacedViewList,

@@ -12,7 +12,7 @@ fn fact_on(facts: &IdFactsList, id: Hash) -> Option<&IdFacts>
     facts.as_slice().iter().find(|fact| fact.id == id)
 }
 
-/// The status of a contract, which is unknown where there is no fact.
+/// The status of a contract by these facts, which is unknown where there is none on it.
 pub(crate) fn status_of(facts: &IdFactsList, id: Hash) -> Status
     ensures { result ≡ known_status facts.now id }
 {
@@ -22,7 +22,7 @@ pub(crate) fn status_of(facts: &IdFactsList, id: Hash) -> Status
     }
 }
 
-/// Whether a request that isn't decided holds a contract.
+/// Whether a request that isn't decided holds a contract, by these facts. False where there is none on it.
 pub(crate) fn is_locked(facts: &IdFactsList, id: Hash) -> bool
     ensures { result ≡ is_known_locked facts.now id }
 {

@@ -18,7 +18,7 @@ fn lists_name(names: &[Name], name: Name) -> bool
     names.iter().any(|other| *other == name)
 }
 
-/// Whether the participant has vetted a package.
+/// Whether the participant that checks has vetted the package of this name.
 pub(crate) fn has_vetted(input: &OpenedInput<'_>, required: Name) -> bool
     ensures { result ≡ vets (slice_get input.now.setup.now.topology.hosts input.now.me) required }
 {
@@ -28,8 +28,8 @@ pub(crate) fn has_vetted(input: &OpenedInput<'_>, required: Name) -> bool
     }
 }
 
-/// Whether a participant hosts a stakeholder of a contract, to confirm for it or only to observe. Where signatories or observers
-/// have no value, nobody is one.
+/// Whether participant `me` hosts a stakeholder of the contract with this instance, to confirm for it or only to observe. Where signatories or
+/// observers have no value, nobody is a stakeholder.
 #[tactic(auto, using(crate::proofs::Stakeholders::any_of_both))]
 pub fn has_hosted_stakeholder(
     alloc: Global,

@@ -32,8 +32,8 @@ pub fn opened_views_can_be_checked()
         → length view.core ≤ 65536 → CanBeChecked packages (shown_by tree) view }
 {}
 
-/// Facts say what is known where each is one of what is known, and there is one on each contract with a hosted stakeholder among the
-/// actions of the core that have roles.
+/// Facts that are each true of what is known of contracts say all that the check of a core asks, where there is one on each contract with a hosted
+/// stakeholder among the actions of the core that have roles.
 pub fn facts_of_what_is_known_say_it()
     ensures { (reading : Reading) (p : ParticipantId) (known : Hash → Status) (held : Hash → Bool) (facts : List IdFacts) (core : List (ℕ × Act))
         → All (IsFactOf known held) facts

@@ -36,7 +36,7 @@ fn number_into<'a>(
     Ok(())
 }
 
-/// Trees with their numbers, the first of which is given.
+/// Trees with the numbers of their roots in pre-order, where the first root has the number `first`.
 pub(crate) fn numbered<'a>(
     alloc: Global,
     trees: &'a ActionNodeList,
@@ -50,7 +50,7 @@ pub(crate) fn numbered<'a>(
     Ok(out)
 }
 
-/// The trees below one.
+/// The trees directly below one, with the numbers of their roots.
 pub(crate) fn numbered_below<'a>(
     alloc: Global,
     tree: &Numbered<'a>,

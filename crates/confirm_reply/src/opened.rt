@@ -10,7 +10,7 @@ use ledger_terms::{ActionNode, ActionNodeList};
 use std::alloc::{AllocError, Global};
 use view_split::{PlacedViewList, assemble};
 
-/// The trees of all views that are opened.
+/// The trees of actions of all views that are opened, one for each view that stands at the top.
 pub(crate) fn roots_of(alloc: Global, views: &PlacedViewList) -> Result<ActionNodeList, AllocError>
     ensures { IfOk result (λ roots. roots ≡ put_back (placed_forest views.now)) }
 {
@@ -43,7 +43,7 @@ pub(crate) fn nodes_of<'a>(
     Ok(nodes)
 }
 
-/// Their actions.
+/// The actions of nodes, as those before another action are asked about.
 pub(crate) fn actions_of<'a>(
     alloc: Global,
     nodes: &[&'a ActionNode],

@@ -30,7 +30,7 @@ fn is_first(core: &[usize], number: usize) -> bool
     }
 }
 
-/// The node with a number.
+/// The node with a number, and None where there are fewer.
 pub(crate) fn node_at<'n>(nodes: &[&'n ActionNode], number: usize) -> Option<&'n ActionNode>
     ensures { result ≡ slice_get nodes.now number }
 {
@@ -105,7 +105,7 @@ impl Trial<'_, '_, '_> {
         }
     }
 
-    /// The verdict where these reasons are tried.
+    /// The verdict on the core where these reasons are tried one after another: a rejection for the first that an action shows, else Approve.
     pub(crate) fn verdict(&self, reasons: &[Reason]) -> Result<LocalVerdict, AllocError>
         requires { IsFit self.now }
         ensures { IfOk result (λ verdict. verdict ≡ verdict_after self.now.input.now (matter_of self.now) reasons.now) }

@@ -117,8 +117,8 @@ impl Trial<'_, '_, '_> {
         Ok(!self.is_requested(&node.root.action)?)
     }
 
-    /// Whether an action shows a reason after those before it; `asks` tells whether the requesters have to authorise it. The
-    /// reasons before these nine are no action's.
+    /// Whether an action shows a reason to reject its view, after the opened actions before it; `asks` tells whether the requesters have to authorise
+    /// it. The four reasons that are a whole view's no action shows.
     pub(crate) fn shows(
         &self,
         reason: Reason,

@@ -38,7 +38,7 @@ fn are_confirmed(topology: &Topology, at: ParticipantId, parties: &Option<PartyS
     }
 }
 
-/// Whether the name that is shown is the sender's, and it confirms the requesters, where they are told.
+/// Whether the name that is shown is the sender's, and the sender confirms for each of the requesters, where they are told.
 pub(crate) fn is_from_sender(input: &OpenedInput<'_>) -> bool
     ensures { result ≡ is_from (reading_by input.now) input.now.sender (shown_by input.now.tree.now) }
 {

@@ -28,7 +28,7 @@ impl Model for SharedTree {
 }
 
 impl SharedTree {
-    /// The tree, in a place of its own.
+    /// Puts a tree into memory of its own, which `shared` then shares.
     pub fn new(alloc: Global, tree: OpenedTree) -> Result<SharedTree, AllocError>
         ensures { IfOk result (λ shared. shared ≡ tree) }
     {
@@ -43,7 +43,7 @@ impl SharedTree {
         &*self.tree
     }
 
-    /// The same tree for one more who looks at it, with no copy.
+    /// The same tree once more, for somebody else who looks at it, without a copy. An error says that there is no room to count one more.
     pub fn shared(&self) -> Result<SharedTree, AllocError>
         ensures { IfOk result (λ shared. shared ≡ self.now) }
     {
@@ -51,7 +51,7 @@ impl SharedTree {
         Ok(SharedTree { tree })
     }
 
-    /// The tree itself where nobody else looks at it, and else the shared tree again.
+    /// The tree itself where nobody else looks at it any more; else the shared tree comes back as the Err.
     pub fn into_opened(self) -> Result<OpenedTree, SharedTree>
         ensures ok { IfOk result (λ tree. tree ≡ self) }
         ensures err { IfErr result (λ shared. shared ≡ self) }

@@ -27,7 +27,7 @@ use lang_eval::NativeList;
 use ledger_terms::{ActionNode, ActionNodeList, Path};
 use std::alloc::{AllocError, Global};
 
-/// All that is opened to a participant, put together to the trees of a transaction.
+/// The trees of all actions that are opened to the participant; none where nothing is. `check_view_among` asks for them.
 pub fn put_together(alloc: Global, input: &CheckInput<'_>) -> Result<ActionNodeList, AllocError>
     ensures { IfOk result (λ roots. roots ≡ roots_shown input.now.shown) }
 {
@@ -37,10 +37,10 @@ pub fn put_together(alloc: Global, input: &CheckInput<'_>) -> Result<ActionNodeL
     }
 }
 
-/// A participant's verdict on the view with this path. Where nothing is opened it is the fixed reason, and a view that isn't among what
-/// is opened is missing. Then come whom the request is from and how the view is split. After these each reason is tried over the
-/// whole core before the next, and the action is the first in pre-order that shows it. A choice that `natives` has is asked of them in
-/// place of the language.
+/// A participant's verdict on the view with this path. Where nothing is opened it is the fixed reason, and a view that isn't among what is opened is
+/// rejected as ViewMissing. Then it is tried whom the request is from and how the view is split. After these each of nine reasons is tried over the
+/// whole core before the next, and the action is the first in pre-order that shows it. A choice that `natives` has is asked of them in place of the
+/// contract language.
 pub fn check_view(
     alloc: Global,
     natives: &NativeList,
@@ -56,7 +56,7 @@ pub fn check_view(
     check_view_among(alloc, natives, input, &roots, view)
 }
 
-/// The same over the trees of all that is opened, which are put together once for all views of them.
+/// As `check_view`, where `roots` are the trees of all that is opened, which are put together once for all views of a request.
 pub fn check_view_among(
     alloc: Global,
     natives: &NativeList,

@@ -135,8 +135,8 @@ fn is_split_by(
     Ok(is_stated && *confirmers == by_core && is_one && are_apart)
 }
 
-/// Whether the actions of the core of a view that is found, and those that begin the views directly below it, have roles and make
-/// just that view.
+/// Whether the actions of the core of a view that is found, and those that begin the views directly below it (`starts`), have roles and make just
+/// that view. `nodes` are all that is opened in pre-order.
 pub(crate) fn is_well_split(
     alloc: Global,
     checked: &Checked,

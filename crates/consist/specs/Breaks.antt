@@ -7,6 +7,7 @@ use Rattle.ledger_terms.specs.contracts.instance.InstancePartialEq.TheImpl as in
 use Rattle.ledger_model.specs.Terms.{Hash, id_of, instance_of, is_create, is_on, creates, consumes}
 use Rattle.ledger_model.specs.Consistency.{SameContract}
 
+-- The action a breaks consistency with the actions before it, `earlier`, in one of four ways.
 pub data Breaks (earlier : List Act) (a : Act) : Type 0 where
   -- it isn't a Create, and none of its contract stands before it
   NotCreated : is_create a.action ≡ false → list_any (creates (id_of a.action)) earlier ≡ false → Breaks earlier a
@@ -17,11 +18,11 @@ pub data Breaks (earlier : List Act) (a : Act) : Type 0 where
   -- an earlier action on its contract carries another instance
   OtherInstance : (b : Act) → Contains earlier b → SameContract b a → instance_of b.action ≢ instance_of a.action → Breaks earlier a
 
--- an action on the contract carries another instance
+-- the action b is on contract c and carries another instance than i
 abbrev pub differs : Hash → Instance → Act → Bool
 differs c i b = is_on c b && not (instance_eq.ghosts.eq (instance_of b.action) i)
 
--- the same by a test
+-- whether an action breaks consistency with the actions before it, `earlier`: a test that is true just where `Breaks` holds
 abbrev pub breaks : List Act → Act → Bool
 breaks earlier a =
     (if is_create a.action then list_any (is_on (id_of a.action)) earlier else not (list_any (creates (id_of a.action)) earlier))

@@ -7,7 +7,7 @@ use Rattle.ledger_model.specs.Forest.{Commit}
 use Rattle.ledger_model.specs.declared.commit.Commit.{Commit as CommitRoots}
 use Rattle.consist.specs.declared.ledger_place.LedgerPlace.{LedgerPlace}
 
--- a path as it is kept, 16 bits of each step
+-- a path as the code keeps it, 16 bits of each step
 abbrev pub kept_path : List ℕ → List ℕ
 kept_path path = map (λ step. step % 2 ^ 16) path
 
@@ -15,7 +15,7 @@ kept_path path = map (λ step. step % 2 ^ 16) path
 abbrev pub placed : Actions → List (List ℕ × Act)
 placed roots = map (λ (x : List ℕ × Act). (kept_path x.0, x.1)) (preorder (paths_from [] 0 roots))
 
--- the actions of a commit, each with its place in the ledger
+-- the actions of a commit in pre-order, each with its place in the ledger
 abbrev pub placed_in_part : CommitRoots → List (LedgerPlace × Act)
 placed_in_part part = map (λ (x : List ℕ × Act). (record { commit = part.place; path = x.0 }, x.1)) (placed part.roots)
 
@@ -23,7 +23,7 @@ placed_in_part part = map (λ (x : List ℕ × Act). (record { commit = part.pla
 abbrev pub placed_in : List CommitRoots → List (LedgerPlace × Act)
 placed_in parts = flat_map placed_in_part parts
 
--- the actions alone
+-- the actions of a ledger's commits, in commit order and then pre-order, without their places
 abbrev pub acts_of_parts : List CommitRoots → List Act
 acts_of_parts parts = flat_map (λ (part : CommitRoots). preorder part.roots) parts
 

@@ -5,13 +5,14 @@ use Rattle.ledger_terms.specs.Trees.{Actions}
 use Rattle.ledger_terms.specs.Forest.{NoRoots, Root}
 use Rattle.consist.specs.First.{acts_in, first_found}
 
--- the actions of trees in pre-order, each with its path below this one; the first root is that of the number
+-- The actions of these trees in pre-order, each with its path as it is kept. The first root is number k below the path `above`.
 abbrev pub placed_from : List ℕ → ℕ → Actions → List (List ℕ × Act)
 placed_from above k NoRoots = []
 placed_from above k (Root act below others) =
     (above ++ k % 2 ^ 16 ∷ [], act) ∷ (placed_from (above ++ k % 2 ^ 16 ∷ []) 0 below ++ placed_from above (suc k) others)
 
--- it stopped at the path, or it went through all
+-- What a walk over these placed actions leaves that stops at the first one which the test finds. Stopped (true), it leaves that action's path; gone
+-- through all (false), it has met all actions and leaves the path with which it began.
 abbrev pub IsWalked : (List Act → Act → Bool) → (earlier : List Act) → (path : List ℕ) → (placed : List (List ℕ × Act)) → Bool → (met : List Act)
     → (left : List ℕ) → Type 0
 IsWalked test earlier path placed true met left = first_found test earlier placed ≡ Some left

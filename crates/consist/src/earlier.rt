@@ -67,7 +67,7 @@ fn is_consuming(action: &Action) -> bool
 }
 
 impl<'a> Earlier<'a> {
-    /// An action with its seed.
+    /// An action of the transaction or ledger as one that stands before another; contracts see it as the action with its seed.
     pub fn of(act: &'a Act) -> Earlier<'a>
         ensures { result ≡ act.now }
     {

@@ -16,7 +16,8 @@ fn is_active(status: Status) -> bool
     }
 }
 
-/// Whether an Exercise or Fetch is on a contract that isn't active and that no earlier action creates.
+/// Whether an action is an Exercise or a Fetch of a contract that isn't active and that no earlier action creates. `status` is that of the action's
+/// contract where the request stands, and `earlier` are the actions of the request before this one.
 pub fn is_inactive(status: Status, earlier: &[Earlier<'_>], action: &Action) -> bool
     ensures { result ≡ shows_inactive (λ c. status) earlier.now (record { seed = []; action = action.now }) }
 {

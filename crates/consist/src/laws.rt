@@ -10,22 +10,24 @@ ghost use Rattle.consist.specs.First.{NoneShows, acts_in};
 ghost use Rattle.consist.specs.Placed.{placed, placed_in, acts_of_parts, part_of};
 ghost use Rattle.consist.specs.Rules.{IsUnordered};
 
-/// A list of actions is consistent exactly where none breaks consistency with those before it.
+/// A list of actions is consistent exactly where no action of it breaks consistency with those before it.
 pub fn consistent_where_none_breaks()
     ensures { (all : List Act) → Consistent all ↔ NoneShows Breaks all }
 {}
 
-/// An action breaks consistency exactly where the list with it is no longer consistent.
+/// Behind a consistent list of actions one more action breaks consistency exactly where the list with it isn't consistent.
 pub fn breaking_ends_consistency()
     ensures { (earlier : List Act) (a : Act) → Consistent earlier → Consistent (earlier ++ a ∷ []) ↔ (Breaks earlier a → ⊥) }
 {}
 
-/// Where a list of actions is consistent, each stretch of it is ordered, as each transaction of a consistent ledger.
+/// Where a list of actions is consistent, no action of any stretch of it is unordered after those before it in the stretch. The transactions of a
+/// ledger are such stretches.
 pub fn consistent_transactions_are_ordered()
     ensures { (before actions after : List Act) → Consistent (before ++ (actions ++ after)) → NoneShows IsUnordered actions }
 {}
 
-/// The placed actions are the actions, and those of a ledger's commits without their requesters are the ledger's.
+/// The helpers that give actions their paths and places leave the actions as they are: those of a transaction, of a ledger's commits, and of a ledger
+/// whose commits are taken without their requesters.
 pub fn places_leave_actions()
     ensures transaction { (roots : Actions) → acts_in (placed roots) ≡ acts roots }
     ensures parts { (parts : List CommitRoots) → acts_in (placed_in parts) ≡ acts_of_parts parts }

@@ -29,9 +29,9 @@ fn first_breaking(alloc: Global, ledger: &CommitList) -> Result<Option<LedgerPla
     Ok(None)
 }
 
-/// The first action, in commit order and then pre-order, that breaks consistency with those before it: no Create of its
-/// contract stands before it and it is none, it is a Create and not the first on its contract, a consuming Exercise stands
-/// before it, or an earlier action carries another instance.
+/// Where the first action of a ledger stands, in commit order and then pre-order, that breaks consistency with those before it: no Create of its
+/// contract stands before it and it is none, it is a Create and not the first on its contract, a consuming Exercise stands before it, or an earlier
+/// action carries another instance. None where no action does; Err is want of memory.
 pub fn find_inconsistent(
     alloc: Global,
     ledger: &CommitList,

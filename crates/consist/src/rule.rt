@@ -18,7 +18,7 @@ pub enum Rule {
     Consistent,
 }
 
-/// Whether an action is on a contract that an earlier one consumes, or creates one on which an earlier one is.
+/// Whether an action is on a contract that one of the earlier actions of its transaction consumes, or creates one on which an earlier one is.
 pub fn is_unordered(earlier: &[Earlier<'_>], action: &Action) -> bool
     ensures { result ≡ shows_unordered earlier.now (record { seed = []; action = action.now }) }
 {

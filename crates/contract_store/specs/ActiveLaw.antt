@@ -9,37 +9,43 @@ use Rattle.canton_model.specs.Inbox.{active_row, first_of_each, is_active_row, i
 use Rattle.contract_store.specs.Active.{active_rows}
 use Rattle.contract_store.specs.Written.{Placed, written, acts_of}
 
--- in rising order of places
+-- none of these actions is of a request before place n
 abbrev pub NoneBefore : ℕ → List Placed → Type 0
 NoneBefore n [] = Unit {0}
 NoneBefore n (p ∷ ps) = (n ≤ p.place) × NoneBefore n ps
 
+-- the actions stand in the order of their requests' places, which may repeat
 abbrev pub InOrder : List Placed → Type 0
 InOrder [] = Unit {0}
 InOrder (p ∷ ps) = NoneBefore p.place ps × InOrder ps
 
+-- whether the action is a Create
 abbrev pub is_creation : Placed → Bool
 is_creation p = is_create p.act.action
 
+-- the contract that the action is on, with the place of its request as that of the contract's creation
 abbrev pub row_for : Placed → ActiveRow
 row_for p = active_row p.place p.act
 
--- the rows of the contracts that these actions create
+-- the contracts that these actions create, in order, each with the place of its request
 abbrev pub created_rows : List Placed → List ActiveRow
 created_rows ps = map row_for (filter is_creation ps)
 
--- none of these actions consumes the contract
+-- whether none of these actions consumes the contract of this row
 abbrev pub is_left : List Act → ActiveRow → Bool
 is_left all row = not (list_any (consumes row.known.id) all)
 
--- the contracts that are created and not consumed, each as it was created first
+-- the contracts that these actions create and none of them consumes, each as it was created first
 abbrev pub rows_left : List Placed → List ActiveRow
 rows_left ps = filter (is_left (acts_of ps)) (first_of_each (created_rows ps))
 
+-- Of a store into which actions were written in the order of their places, the active contracts are those that the actions create and none of them
+-- consumes. It is the law `active_is_left`.
 abbrev pub ActiveIsLeft : Type 0
 ActiveIsLeft = (ps : List Placed) → InOrder ps → active_rows (written ps []) ≡ rows_left ps
 
--- those with a hosted stakeholder are the model's active contracts among these actions
+-- Those of the store's active contracts with a stakeholder that the participant hosts are the model's active contracts among these actions. It is the
+-- law `hosted_is_active`.
 abbrev pub HostedIsActive : Type 0
 HostedIsActive = (reading : Reading) (party : ParticipantId) (ps : List Placed) → InOrder ps
     → filter (λ (a : ActiveRow). is_stakeholder_hosted reading party a.known.instance) (active_rows (written ps []))

@@ -13,6 +13,7 @@ use Rattle.contract_store.specs.Leads.{row_behind, hold_behind}
 use Rattle.contract_store.specs.Holds.{LeadsToHolds}
 use Rattle.contract_store.specs.KeptRows.{LeadsToRows}
 
+-- what contracts see of a store: its rows and holds, and the room that was made ahead
 pub record Stored : Type 0 where
   -- one for each contract, in the order in which they came
   pub rows : List StoreRow
@@ -25,26 +26,26 @@ pub record Stored : Type 0 where
   -- how many holds are kept, those that were released too
   pub kept : ℕ
 
--- whether the id is among those made ready
+-- whether a contract was made ready: a change of it and a hold on it take no memory for its id
 abbrev pub is_ready : List Hash → Hash → Bool
 is_ready ready c = list_any (bytes_eq c) ready
 
--- whether a request holds the contract
+-- whether some request holds the contract with this id
 abbrev pub is_held : List Hold → Hash → Bool
 is_held holds c = list_any (λ (h : Hold). bytes_eq h.id c) holds
 
--- how many more entries a map has room for
+-- how many more entries a map takes without asking for memory
 abbrev pub map_room : {K X S : Type 0} → IndexMap K X S → ℕ
 map_room m = map_spare m
 
--- the maps lead from each id to the row and the holds with it, from each salt to the rows with it, and from each place to
--- the holds of its request
+-- The maps of a store lead to what it keeps: `ids` from each id to its contract's row and to the holds on it, `salts` from each salt to the rows with
+-- it, and `places` from each place to the holds of its request.
 pub record LeadsToAll (rows : List KeptRow) (holds : List KeptHold) (ids : List ℕ → Option ContractPlaces) (salts : List ℕ → Option ℕ)
     (places : ℕ → Option ℕ) : Type 0 where
   pub to_rows : LeadsToRows rows (λ c. row_behind (ids c)) salts
   pub to_holds : LeadsToHolds holds (λ c. hold_behind (ids c)) places
 
--- more keys, with nothing behind them
+-- The second map has all keys of the first, which lead to what they led to, and what other keys it has lead to no row and no hold.
 pub record Grows (ids ids' : List ℕ → Option ContractPlaces) : Type 0 where
   pub by_row : (c : List ℕ) → row_behind (ids' c) ≡ row_behind (ids c)
   pub by_hold : (c : List ℕ) → hold_behind (ids' c) ≡ hold_behind (ids c)

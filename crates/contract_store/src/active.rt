@@ -15,7 +15,7 @@ use crate::row::{KeptRow, StoreRow};
 use indexmap::IndexMap;
 use ledger_terms::{Hash, Known};
 
-/// The place at which the contract of a row was created, where it is active.
+/// The place of the request that created a row's contract, where the contract is active; else None.
 pub fn active_since(row: &StoreRow) -> Option<u64>
     ensures { result ≡ option_map (λ a. a.created_at) (active row.now) }
 {
@@ -25,7 +25,7 @@ pub fn active_since(row: &StoreRow) -> Option<u64>
     }
 }
 
-// The place before a row on the chain of its salt.
+// The index of the row before this one on the chain of its salt, and None where it is the first.
 fn before_row(kept: &Vec<KeptRow>, at: usize) -> Option<usize>
     requires { at < vec_len kept.now }
     ensures { (k : KeptRow) → slice_get kept.now.items at ≡ Some k → result ≡ k.before }
@@ -33,7 +33,7 @@ fn before_row(kept: &Vec<KeptRow>, at: usize) -> Option<usize>
     kept[at].before
 }
 
-// Of the row at a place and the best so far, the one that was created first.
+// The index of the active contract that was created first, of the row at `at` and the best so far. A row whose contract isn't active doesn't count.
 fn sooner(kept: &Vec<KeptRow>, at: usize, best: Option<usize>) -> Option<usize>
     requires { at < vec_len kept.now }
     ensures { (k : KeptRow) → slice_get kept.now.items at ≡ Some k → active_at kept.now.items result ≡ sooner (active k.row) (active_at kept.now.items best) }
@@ -45,7 +45,7 @@ fn sooner(kept: &Vec<KeptRow>, at: usize, best: Option<usize>) -> Option<usize>
     }
 }
 
-// The same where the contract of the row passes the test, and else the best so far.
+// As `sooner` where the contract of the row passes the test, and else the best so far.
 fn sooner_passing<T: ContractTest>(
     kept: &Vec<KeptRow>,
     test: &T,
@@ -75,7 +75,7 @@ fn since(kept: &Vec<KeptRow>, best: Option<usize>) -> Option<u64>
     }
 }
 
-/// The contract of a row, where it is active.
+/// The contract of a row, where it is active; else None.
 pub fn known_if_active(row: &StoreRow) -> Option<&Known>
     ensures { option_copied result ≡ option_map (λ a. a.known) (active row.now) }
 {
@@ -97,7 +97,7 @@ fn known_at(kept: &Vec<KeptRow>, best: Option<usize>) -> Option<&Known>
     }
 }
 
-/// The first active contract with a salt that passes the test, in order of creation.
+/// The active contract with this salt that passes the test and was created first; None where there is none.
 pub fn first_with_salt<'a, T: ContractTest>(
     kept: &'a Vec<KeptRow>,
     salts: &IndexMap<Hash, usize>,

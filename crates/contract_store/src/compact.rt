@@ -15,7 +15,7 @@ use crate::lookup::{hold_behind, put_hold};
 use indexmap::IndexMap;
 use ledger_terms::Hash;
 
-// A place among the holds that were moved, and none where it isn't one.
+// An index of the vector, where it is one of the first `to`, to which holds were moved; else None.
 fn place_among(to: usize, place: Option<usize>) -> Option<usize>
     ensures { result ≡ among to place }
 {
@@ -25,7 +25,7 @@ fn place_among(to: usize, place: Option<usize>) -> Option<usize>
     }
 }
 
-// Lets a place that leads to a hold lead to another, in the room that it has.
+// Lets the place of a request, which leads to a hold, lead to the one at the index `to`.
 fn move_place(places: &mut IndexMap<u64, usize>, place: u64, to: usize)
     requires { IsSome (get nat_eq places.old place) }
     ensures places { (p : ℕ) → get nat_eq places.new p ≡ (if nat_eq place p then Some to else get nat_eq places.old p) }
@@ -36,7 +36,7 @@ fn move_place(places: &mut IndexMap<u64, usize>, place: u64, to: usize)
     }
 }
 
-// Moves a hold behind those that were moved before it.
+// Moves a hold to the index `to`, behind those that were moved before it.
 fn move_hold(
     slots: &mut Vec<KeptHold>,
     ids: &mut IndexMap<Hash, ContractPlaces>,
@@ -73,7 +73,7 @@ fn move_hold(
     move_place(places, hold.place, to);
 }
 
-// Moves the next hold, if it was not released, and gives how many were moved then.
+// Moves the hold at `next` to the index `to`, if it was not released. The result is how many were moved then.
 fn move_next(
     slots: &mut Vec<KeptHold>,
     ids: &mut IndexMap<Hash, ContractPlaces>,
@@ -102,7 +102,7 @@ fn move_next(
     to
 }
 
-// Takes all released holds out.
+// Takes all released holds out of the vector, and lets the maps lead to where the others are.
 fn keep_live(
     slots: &mut Vec<KeptHold>,
     ids: &mut IndexMap<Hash, ContractPlaces>,
@@ -125,7 +125,8 @@ fn keep_live(
     slots.truncate(to);
 }
 
-/// Takes the released holds out where they are more than the others, so that each is passed once for a release.
+/// Takes the released holds out of the vector where they are more than the others, so that on average each is passed once for a release. `dead` is
+/// how many released ones there are.
 pub fn drop_released(
     slots: &mut Vec<KeptHold>,
     ids: &mut IndexMap<Hash, ContractPlaces>,

@@ -10,7 +10,7 @@ pub trait ContractTest {
 
     ghost passes: { Self → Known → Bool };
 
-    /// Whether the contract passes.
+    /// Whether the contract passes the test.
     fn passes(&self, known: &Known) -> bool
         ensures { result ≡ passes self.now known.now };
 }

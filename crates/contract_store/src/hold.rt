@@ -8,11 +8,11 @@ pub struct Hold {
     pub place: u64,
 }
 
-/// Hashes.
+/// Ids of contracts.
 pub type HashList = ListOf<Hash>;
 
-/// A hold that was not released, or was, with the place in the vector of the last one before it on the same contract, and of
-/// the last one before it of the same request.
+/// A hold as it is kept, live until it is released, with the index of the last one before it on the same contract, and of the last one before it of
+/// the same request.
 #[derive(Clone, Copy)]
 pub struct KeptHold {
     pub hold: Hold,

@@ -15,14 +15,14 @@ use crate::lookup::{hold_behind, put_hold};
 use indexmap::IndexMap;
 use ledger_terms::Hash;
 
-/// The place of the last hold of a request.
+/// The index of the last hold of the request at this place, and None where it has none.
 pub fn place_behind(places: &IndexMap<u64, usize>, place: u64) -> Option<usize>
     ensures { result ≡ get nat_eq places.now place }
 {
     places.get(&place).copied()
 }
 
-/// Lets a place lead to a hold.
+/// Lets the place of a request lead to the hold at the index `at`. Takes no memory.
 pub fn put_place(places: &mut IndexMap<u64, usize>, place: u64, at: usize)
     requires { 0 < spare places.old }
     ensures places { (p : ℕ) → get nat_eq places.new p ≡ (if nat_eq place p then Some at else get nat_eq places.old p) }
@@ -31,7 +31,7 @@ pub fn put_place(places: &mut IndexMap<u64, usize>, place: u64, at: usize)
     let _ = places.insert(place, at).unwrap();
 }
 
-/// One more hold, in the room that is there.
+/// Puts one more hold at the end, where the maps then lead. Room was made for it, so it takes no memory.
 pub fn push_hold(
     slots: &mut Vec<KeptHold>,
     ids: &mut IndexMap<Hash, ContractPlaces>,
@@ -65,7 +65,7 @@ pub fn push_hold(
     put_place(places, hold.place, at);
 }
 
-/// The hold at a place in the vector.
+/// The kept hold at an index of the vector, whether it was released or not.
 pub fn slot_at(slots: &Vec<KeptHold>, at: usize) -> KeptHold
     requires { at < vec_len slots.now }
     ensures { slice_get slots.now.items at ≡ Some result }
@@ -73,7 +73,7 @@ pub fn slot_at(slots: &Vec<KeptHold>, at: usize) -> KeptHold
     slots[at]
 }
 
-// The last hold on a contract that was not released, from a place on towards the start.
+// The index of the last hold on a contract that was not released, sought along its chain from `from` on towards the start. None where there is none.
 fn last_live(slots: &Vec<KeptHold>, id: &Hash, from: Option<usize>) -> Option<usize>
     requires linked { IsLinked bytes_eq (map link_on slots.now.items) }
     requires reaches { Reaches bytes_eq (map link_on slots.now.items) id.now from }
@@ -90,7 +90,7 @@ fn last_live(slots: &Vec<KeptHold>, id: &Hash, from: Option<usize>) -> Option<us
     None
 }
 
-// Releases the hold at a place in the vector.
+// Releases the hold at an index of the vector. Its contract then leads to the last hold on it that is left.
 fn release_hold(slots: &mut Vec<KeptHold>, ids: &mut IndexMap<Hash, ContractPlaces>, at: usize)
     requires within { at < vec_len slots.old }
     requires on { Chains bytes_eq (map link_on slots.old.items) (λ c. hold_behind (get bytes_eq ids.old c)) }
@@ -114,7 +114,7 @@ fn release_hold(slots: &mut Vec<KeptHold>, ids: &mut IndexMap<Hash, ContractPlac
     }
 }
 
-// Whether an id leads to this hold.
+// Whether the map leads from an id to the hold at this index.
 fn leads_to(ids: &IndexMap<Hash, ContractPlaces>, id: &Hash, at: usize) -> bool
     ensures yes { IsTrue result → hold_behind (get bytes_eq ids.now id.now) ≡ Some at }
     ensures no { IsFalse result → hold_behind (get bytes_eq ids.now id.now) ≢ Some at }
@@ -125,7 +125,7 @@ fn leads_to(ids: &IndexMap<Hash, ContractPlaces>, id: &Hash, at: usize) -> bool
     }
 }
 
-// One more released hold, if it was live.
+// Counts one more released hold, if it was not released before.
 fn count_dead(dead: &mut usize, live: bool)
     requires { (if live then 1 else 0) + dead.old < 2 ^ 63 }
     ensures { dead.new ≡ (if live then 1 else 0) + dead.old }
@@ -133,7 +133,7 @@ fn count_dead(dead: &mut usize, live: bool)
     *dead += usize::from(live);
 }
 
-// Releases the hold at a place in the vector, and gives the place of the one before it of the same request.
+// Releases the hold at an index of the vector, and gives the index of the one before it of the same request, None where it is the first.
 fn release_next(
     slots: &mut Vec<KeptHold>,
     ids: &mut IndexMap<Hash, ContractPlaces>,
@@ -160,7 +160,7 @@ fn release_next(
     slot.before_at
 }
 
-/// Releases the holds of a request, and counts them with those that were released before.
+/// Releases the holds of the request at `place`. `dead` counts all that were released and are still in the vector.
 pub fn release_place(
     slots: &mut Vec<KeptHold>,
     ids: &mut IndexMap<Hash, ContractPlaces>,

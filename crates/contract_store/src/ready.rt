@@ -35,7 +35,8 @@ fn add_hashes(ids: &mut IndexMap<Hash, ContractPlaces>, hashes: &HashList) -> Re
     Ok(())
 }
 
-/// Puts the ids of contracts, and ids, into the map.
+/// Puts the ids of these contracts, and these ids, into the map, so that their rows and holds take no memory there. After an error some of them may
+/// be there.
 pub fn add_all(
     ids: &mut IndexMap<Hash, ContractPlaces>,
     known: &KnownList,
@@ -50,7 +51,7 @@ pub fn add_all(
     Ok(())
 }
 
-/// Makes room for so many more rows and holds.
+/// Makes room for `count` more rows and holds, and for as many salts and places in the maps. After an error some of them may have room.
 pub fn make_room(
     rows: &mut Vec<KeptRow>,
     holds: &mut Vec<KeptHold>,

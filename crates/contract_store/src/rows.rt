@@ -14,7 +14,7 @@ use crate::row::{KeptRow, StoreRow};
 use indexmap::IndexMap;
 use ledger_terms::{Hash, Known};
 
-/// The row at a place.
+/// The row at an index of the vector, and None where there are fewer.
 pub fn row_at(kept: &Vec<KeptRow>, at: usize) -> Option<&StoreRow>
     ensures { option_copied result ≡ slice_get (rows_of kept.now.items) at }
 {
@@ -24,7 +24,7 @@ pub fn row_at(kept: &Vec<KeptRow>, at: usize) -> Option<&StoreRow>
     }
 }
 
-/// The row of a contract.
+/// The row of the contract with this id, and None where it has none.
 pub fn find_row<'a>(
     kept: &'a Vec<KeptRow>,
     ids: &IndexMap<Hash, ContractPlaces>,
@@ -83,7 +83,7 @@ fn set_consumed(kept: &mut Vec<KeptRow>, at: usize, place: u64)
     consumed_row(&mut kept[at], place);
 }
 
-// One more row, of a contract that has none, in the room that is there.
+// Puts one more row at the end, of a contract that has none. Room was made for it, so it takes no memory.
 fn push_row(
     kept: &mut Vec<KeptRow>,
     ids: &mut IndexMap<Hash, ContractPlaces>,
@@ -112,7 +112,7 @@ fn push_row(
     put_row(ids, id, at);
 }
 
-/// The contract is created at a place, in the room that is there.
+/// Notes that the request at `place` creates the contract: in its row, or in a new one where it has none. Room was made, so it takes no memory.
 pub fn create_row(
     kept: &mut Vec<KeptRow>,
     ids: &mut IndexMap<Hash, ContractPlaces>,
@@ -147,7 +147,7 @@ pub fn create_row(
     }
 }
 
-/// The contract is consumed at a place, in the room that is there.
+/// Notes that the request at `place` consumes the contract: in its row, or in a new one where it has none. Room was made, so it takes no memory.
 pub fn consume_row(
     kept: &mut Vec<KeptRow>,
     ids: &mut IndexMap<Hash, ContractPlaces>,

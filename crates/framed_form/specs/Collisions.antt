@@ -23,25 +23,27 @@ use Rattle.framed_form.specs.Agreeing.{request_trees}
 use Rattle.framed_form.specs.Framed.{IsFramed}
 use Rattle.framed_form.specs.FramedForm.{complete_in, offered_by}
 
--- the string of a contract's id
+-- the string whose hash is the id of the action's contract
 abbrev pub id_string : Act → List ℕ
 id_string act = contract_id_string (salt_of act) (spell_instance (instance_of act.action))
 
+-- the actions of an opened tree, none where there is no tree
 abbrev pub acts_opened : Option OpenedTree → List Act
 acts_opened None = []
 acts_opened (Some opened) = acts (put_back (placed_forest opened.views))
 
--- the actions that complete envelopes open
+-- the actions that complete ones of these envelopes open
 abbrev pub acts_in : Topology → Request → List Envelope → List Act
 acts_in topology request [] = []
 acts_in topology request (envelope ∷ envelopes) =
     acts_opened (complete_in (offered_by topology envelope.to request envelope.bytes)) ++ acts_in topology request envelopes
 
--- the id of every action that a complete envelope opens, and the leaves, views and roots of its trees
+-- What is hashed of a request: for the id of every action that a complete envelope opens, and for the leaves, views and roots of its trees.
 abbrev pub request_strings : Topology → Request → List (List ℕ)
 request_strings topology request =
     map id_string (acts_in topology request request.envelopes) ++ flat_map (tree_strings sha256) (request_trees request)
 
+-- what is hashed of a message: nothing, unless it is a request
 abbrev pub message_strings : Topology → Message → List (List ℕ)
 message_strings topology (RequestMessage request) = request_strings topology request
 message_strings topology (ResponseMessage response) = []
@@ -52,7 +54,7 @@ message_strings topology Tick = []
 abbrev pub hashed : Topology → List Entry → List (List ℕ)
 hashed topology log = flat_map (λ (entry : Entry). message_strings topology entry.message) log
 
--- two different strings that are hashed of the log have one hash
+-- The log collides: two different strings that are hashed of it have one hash.
 abbrev pub Collides : Topology → List Entry → Type 0
 Collides topology log = Clash sha256 (hashed topology log) (hashed topology log)
 

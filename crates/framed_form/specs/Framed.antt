@@ -29,15 +29,16 @@ abbrev pub asked_by : Topology → List ViewRoles → List ℕ
 asked_by topology views =
     filter (λ p. list_any (λ (view : ViewRoles). list_any (confirms_at topology.hosts p) view.confirmers) views) (participants_of topology)
 
--- numbers from the first bound up to the second, each above the one before
+-- The numbers go from `low` up to below `high`, each above the one before.
 abbrev pub RisesBetween : (low : ℕ) → List ℕ → (high : ℕ) → Type 0
 RisesBetween low [] high = low ≤ high
 RisesBetween low (n ∷ more) high = (low ≤ n) × RisesBetween (suc n) more high
 
--- numbers that a byte can be
+-- each of these numbers is one that a byte can be
 abbrev pub AreBytes : List ℕ → Type 0
 AreBytes bytes = All (λ b. b < 256) bytes
 
+-- the participant to which an envelope goes
 abbrev pub recipient_of : Envelope → ℕ
 recipient_of envelope = envelope.to
 
@@ -64,6 +65,7 @@ pub record IsFramed (topology : Topology) (request : Request) : Type 0 where
 
 -- ---- the test that decides it
 
+-- the test of `IsConfirmed`
 abbrev pub is_confirmed : Topology → ViewRoles → Bool
 is_confirmed topology view =
     nat_lt 0 (length view.confirmers) && (is_subset view.confirmers view.informees && list_all (is_hosted topology) view.informees)
@@ -74,33 +76,39 @@ hides_contents NoVertices = true
 hides_contents (BlindVertex hash others) = hides_contents others
 hides_contents (InnerVertex informees contents subviews others) = not (is_plain contents) && (hides_contents subviews && hides_contents others)
 
--- two lists of participants are one
+-- whether two lists have the same participants in the same order
 abbrev pub same_participants : List ℕ → List ℕ → Bool
 same_participants = bytes_eq
 
+-- There is a view, each is confirmed, and just those who confirm for one are asked. False where no views could be read (None).
 abbrev pub are_views_framed : Topology → (confirming : List ℕ) → Option RolesTree → Bool
 are_views_framed topology confirming None = false
 are_views_framed topology confirming (Some roles) =
     nat_lt 0 (length roles.views) && (list_all (is_confirmed topology) roles.views && same_participants confirming (asked_by topology roles.views))
 
+-- The mediator's tree shows neither the requesters nor the contents of a view, and its views are framed. False where there is no tree.
 abbrev pub is_tree_framed : Topology → (confirming : List ℕ) → Option Tree → Bool
 is_tree_framed topology confirming None = false
 is_tree_framed topology confirming (Some tree) =
     not (is_plain tree.requesters) && (hides_contents tree.views && are_views_framed topology confirming (found (informee_tree_of tree)))
 
+-- the test of `AreBytes`
 abbrev pub are_bytes : List ℕ → Bool
 are_bytes bytes = list_all (λ b. nat_lt b 256) bytes
 
+-- bytes within the limit of a tree
 abbrev pub is_short : List ℕ → Bool
 is_short bytes = nat_le (length bytes) MOST_TREE_BYTES && are_bytes bytes
 
--- each of these envelopes is a participant's, not before the next and later in the order than the one before, and has bytes within the limit
+-- Each of these envelopes goes to one of so many participants, from number `next` on, each to a later one than the envelope before, and has bytes
+-- within the limit.
 abbrev pub are_envelopes_framed : (next hosts : ℕ) → List Envelope → Bool
 are_envelopes_framed next hosts [] = true
 are_envelopes_framed next hosts (envelope ∷ rest) =
     nat_le next envelope.to
     && (nat_lt envelope.to hosts && (is_short envelope.bytes && are_envelopes_framed (suc envelope.to) hosts rest))
 
+-- The test of `IsFramed`: what the sequencer asks of a request, whoever sent it.
 unfoldable pub is_framed : Topology → Request → Bool
 is_framed topology request =
     nat_lt request.sender (length topology.hosts)

@@ -30,10 +30,12 @@ use Rattle.framed_form.specs.Together.{Part, views_together}
 
 -- ---- what the mediator is told
 
+-- the views that were read, none where there was a fault
 abbrev pub forest_in : Result (Forest Sets) WireFault → Forest Sets
 forest_in (Ok views) = views
 forest_in (Err fault) = NoRoots
 
+-- the views that a tree tells, each with its informees and confirmers; none where there is no tree
 abbrev pub outline_in : Option Tree → Forest Sets
 outline_in None = NoRoots
 outline_in (Some tree) = forest_in (roles_read tree.views)
@@ -42,18 +44,20 @@ outline_in (Some tree) = forest_in (roles_read tree.views)
 abbrev pub outline_of : Request → Forest Sets
 outline_of request = outline_in (tree_in request.mediator)
 
+-- the root hash of a tree, [] where there is no tree
 abbrev pub root_in : Option Tree → List ℕ
 root_in None = []
 root_in (Some tree) = hash_of_root sha256 tree
 
--- the hash of the mediator's tree
+-- the root hash of the mediator's tree of a request
 abbrev pub root_of : Request → List ℕ
 root_of request = root_in (tree_in request.mediator)
 
--- the views that a participant sees: those with an informee that it hosts, and those below them
+-- The paths of the views that participant p sees: those with an informee that it hosts, and those below them.
 abbrev pub paths_seen : Topology → ℕ → Request → List (List ℕ)
 paths_seen topology p request = seen_in (hosts_at topology.hosts p) (outline_of request)
 
+-- participant p sees a root view of the request
 abbrev pub sees_root_view : Topology → ℕ → Request → Bool
 sees_root_view topology p request = list_any is_root_path (paths_seen topology p request)
 
@@ -63,59 +67,66 @@ sees_root_view topology p request = list_any is_root_path (paths_seen topology p
 abbrev pub names_known : Topology → OpenedTree → Bool
 names_known topology opened = list_all (is_hosted topology) (parties_in_forest (put_back (placed_forest opened.views)))
 
+-- What was opened, where it names parties of the topology alone; else it counts as Missing.
 abbrev pub if_known : Topology → OpenedFor → OpenedFor
 if_known topology Mismatch = Mismatch
 if_known topology Missing = Missing
 if_known topology (Open opened) = if names_known topology opened then Open opened else Missing
 
--- what bytes offer a participant: all that it is to see, or not
+-- What an envelope with these bytes offers participant p: all that it is to see (Open), or not all (Missing), or a tree with another root hash or none
+-- (Mismatch).
 abbrev pub offered_by : Topology → ℕ → Request → List ℕ → OpenedFor
 offered_by topology p request bytes =
     if_known topology (opened_for_root (root_of request) (paths_seen topology p request) (sees_root_view topology p request) bytes)
 
+-- what an envelope with these bytes, if there is one, offers participant p; Missing where there is none
 abbrev pub offered_in : Topology → ℕ → Request → Option (List ℕ) → OpenedFor
 offered_in topology p request None = Missing
 offered_in topology p request (Some bytes) = offered_by topology p request bytes
 
--- what the envelope to a participant offers it
+-- what the envelope to participant p offers it
 abbrev pub offered : Topology → ℕ → Request → OpenedFor
 offered topology p request = offered_in topology p request (envelope_to p request.envelopes)
 
+-- the opened tree, None where the envelope isn't complete
 abbrev pub complete_in : OpenedFor → Option OpenedTree
 complete_in Mismatch = None
 complete_in Missing = None
 complete_in (Open opened) = Some opened
 
--- what the envelope to a participant opens to it, where it is complete
+-- what the envelope to participant p opens to it, None where it isn't complete
 abbrev pub opened_to : Topology → ℕ → Request → Option OpenedTree
 opened_to topology p request = complete_in (offered topology p request)
 
 -- ---- what complete envelopes say together
 
+-- The tree's vertices with the paths that are opened, as a list of one, where something was opened and there is a tree; else no part.
 abbrev pub part_if : (opens : List ℕ → Bool) → Option OpenedTree → Option Tree → List Part
 part_if opens None tree = []
 part_if opens (Some opened) None = []
 part_if opens (Some opened) (Some tree) = record { opens = opens; views = tree.views } ∷ []
 
--- the vertices of an envelope with the views that it opens, where it is complete
+-- The vertices of an envelope with the paths of the views that it opens, as a list of one, where it is complete; else no part.
 abbrev pub part_of : Topology → Request → Envelope → List Part
 part_of topology request envelope =
     part_if (is_listed (paths_seen topology envelope.to request)) (complete_in (offered_by topology envelope.to request envelope.bytes))
     (tree_in envelope.bytes)
 
+-- the parts of these envelopes, in order
 abbrev pub parts_of : Topology → Request → List Envelope → List Part
 parts_of topology request [] = []
 parts_of topology request (envelope ∷ envelopes) = part_of topology request envelope ++ parts_of topology request envelopes
 
--- all views, each from the first complete envelope that opens it
+-- All views of a request, each from the first complete envelope that opens it; None where some view is opened by none.
 abbrev pub whole_views : Topology → Request → Option (Forest SplitView)
 whole_views topology request = views_together [] 0 (parts_of topology request request.envelopes) (outline_of request)
 
+-- the requesters that an opened tree shows, None where it shows none or there is no tree
 abbrev pub requesters_in : Option OpenedTree → Option (List (List ℕ))
 requesters_in None = None
 requesters_in (Some opened) = opened.requesters
 
--- the requesters, from the first complete envelope to a participant that sees a root view
+-- The requesters, from the first complete one of these envelopes to a participant that sees a root view; None where there is none.
 abbrev pub requesters_of : Topology → Request → List Envelope → Option (List (List ℕ))
 requesters_of topology request [] = None
 requesters_of topology request (envelope ∷ envelopes) =
@@ -123,7 +134,7 @@ requesters_of topology request (envelope ∷ envelopes) =
     (if sees_root_view topology envelope.to request then requesters_in (complete_in (offered_by topology envelope.to request envelope.bytes)) else None)
     (requesters_of topology request envelopes)
 
--- sender and ledger time, as the mediator reads them
+-- sender and ledger time, as the mediator reads them; None where they can't be read
 abbrev pub head_of : Request → Option (List ℕ × ℕ)
 head_of request = option_and_then (λ (tree : Tree). found (read_leaf head_at tree.common)) (tree_in request.mediator)
 
@@ -134,9 +145,11 @@ pub record Whole : Type 0 where
   pub requesters : List (List ℕ)
   pub views : Forest SplitView
 
+-- the transaction itself, its actions put together of its views
 abbrev pub transaction_of : Whole → Transaction
 transaction_of whole = record { requesters = whole.requesters; ledger_time = whole.ledger_time; roots = assembled whole.views }
 
+-- a whole made of head (sender and ledger time), requesters and views, None where one of these is missing
 abbrev pub whole_with : Option (List ℕ × ℕ) → Option (List (List ℕ)) → Option (Forest SplitView) → Option Whole
 whole_with None requesters views = None
 whole_with (Some head) None views = None
@@ -144,6 +157,6 @@ whole_with (Some head) (Some requesters) None = None
 whole_with (Some head) (Some requesters) (Some views) =
     Some (record { sender = head.0; ledger_time = head.1; requesters = requesters; views = views })
 
--- what is requested, where complete envelopes open all of it
+-- the whole transaction of a request, read from its complete envelopes; None where these don't open all of it
 abbrev pub whole_of : Topology → Request → Option Whole
 whole_of topology request = whole_with (head_of request) (requesters_of topology request request.envelopes) (whole_views topology request)

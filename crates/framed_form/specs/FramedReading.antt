@@ -25,13 +25,13 @@ use Rattle.framed_form.specs.FramedForm.{offered, outline_of, transaction_of, wh
 abbrev pub stated : Sets → Outlined
 stated sets = record { informees = sets.0; confirmers = sets.1 }
 
--- what an envelope gives, as the ledger's definitions see it
+-- what an envelope offers, as the protocol's definitions have it
 abbrev pub offer_of : OpenedFor → Offer
 offer_of Mismatch = reading.Mismatch
 offer_of Missing = reading.Missing
 offer_of (Open opened) = reading.Open (shown_by opened)
 
--- the reading of a synchroniser with this topology, over a contract language, a test of what conforms and one of what is authentic
+-- The reading of a synchroniser with this topology, over a contract language, a test of what conforms to it and one of which ids are authentic.
 abbrev pub framed_reading_over : Topology → Language → (conforms : Forest Act → Bool) → (is_authentic : Act → Bool) → Reading
 framed_reading_over topology language conforms is_authentic =
     record {

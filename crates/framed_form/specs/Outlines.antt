@@ -14,7 +14,8 @@ use Rattle.framed_form.specs.FramedForm.{outline_of, root_of}
 use Rattle.framed_form.specs.declared.outline.Outline.{Outline}
 use Rattle.framed_form.specs.declared.told_tree.ToldTree.{ToldTree}
 
--- The mediator's bytes spell the tree, and the tree tells the views.
+-- What was read of a request is right: the mediator's bytes spell the tree `told.tree`, and this tells the sender and the roles of the views,
+-- `told.roles`.
 pub record IsTold (request : Request) (told : ToldTree) : Type 0 where
   pub spells : tree_in request.mediator ≡ Some told.tree
   pub narrow : IsNarrow told.tree.views
@@ -24,12 +25,12 @@ pub record IsTold (request : Request) (told : ToldTree) : Type 0 where
 abbrev pub listed_views : Forest Sets → List ViewRoles
 listed_views views = map (λ (view : Path × Sets). view_roles view.0 view.1) (preorder (paths_from [] 0 views))
 
--- What the mediator's bytes tell: their tree's hash, and its views.
+-- What the mediator's bytes of a request tell: their tree's root hash, and its views.
 pub record IsOutline (request : Request) (outline : Outline) : Type 0 where
   pub root : outline.root ≡ root_of request
   pub views : outline.views ≡ listed_views (outline_of request)
 
--- where the message is a request, its mediator's bytes tell just this
+-- Where the message is a request, its mediator's bytes tell just this outline; where it is another message, nothing is said.
 abbrev pub IsOutlined : Message → Option Outline → Type 0
 IsOutlined (RequestMessage request) None = ⊥
 IsOutlined (RequestMessage request) (Some outline) = IsOutline request outline

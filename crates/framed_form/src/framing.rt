@@ -19,7 +19,7 @@ use ledger_terms::limits::MOST_TREE_BYTES;
 use ledger_terms::{Name, ParticipantId, ParticipantIdList, PartySet, Topology};
 use std::alloc::{AllocError, Global};
 
-/// What the mediator's bytes of a request tell, where the request is framed, and none where it isn't. The bytes are read once.
+/// What the mediator's bytes of a request tell where the request is framed, and None where it isn't. The bytes are read once. Err is want of memory.
 #[tactic(auto, unfolding(crate::specs::Framed::is_framed))]
 pub fn framed_outline(
     alloc: Global,
@@ -47,7 +47,7 @@ pub fn framed_outline(
     Ok(Some(outline_of(alloc, told)?))
 }
 
-/// Whether a request is framed, so that the sequencer takes it from anybody.
+/// Whether a request is framed, so that the sequencer takes it from anybody. Err is want of memory.
 pub fn framed(alloc: Global, topology: &Topology, request: &Request) -> Result<bool, AllocError>
     requires { length topology.now.hosts ≤ 256 }
     ensures { IfOk result (λ is. is ≡ is_framed topology.now request.now) }

@@ -42,12 +42,12 @@ ghost use Rattle.blind_tree.specs.declared.shown_for.OpenedFor.TheVariants.{Open
 ghost use Rattle.framed_form.specs.ByRules.{HasSignatories, IsByRules};
 ghost use Rattle.framed_form.specs.FramedReading.{framed_reading};
 
-/// The test decides whether a request is framed.
+/// The test of framed requests, `is_framed`, is true exactly of those that are framed.
 pub fn framing_is_decided()
     ensures { (topology : Topology) (request : Request) → Decides (is_framed topology request) (IsFramed topology request) }
 {}
 
-/// A sealed request of a transaction with a root is framed.
+/// A sealed request is framed where its transaction has a root action and all that it sends are bytes.
 pub fn sealed_requests_are_framed()
     ensures { (topology : Topology) (packages : Packages) (request : Request) (sealed : IsSealedForm topology packages request)
         → ((sealed.whole).transaction).roots ≢ NoRoots
@@ -56,7 +56,7 @@ pub fn sealed_requests_are_framed()
         → IsFramed topology request }
 {}
 
-/// A framed request that is made of what can be sealed is sealed.
+/// A request that is made of a transaction that can be sealed is sealed, where it is framed; being framed says that its bytes aren't too long.
 pub fn framed_requests_that_are_made_are_sealed()
     ensures { (topology : Topology) (packages : Packages) (sender : ℕ) (command : List ℕ) (whole : Whole) (request : Request)
         → CanBeSealed topology packages sender whole
@@ -87,13 +87,15 @@ pub fn complete_envelopes_open_parts_of_the_whole()
         → map_forest (λ (view : SplitView). (view.informees, view.confirmers)) views ≡ outline }
 {}
 
-/// Views that have the structure that their actions ask for are the views of the transaction that they are put back to.
+/// Views that are structured as the rules make them of their actions (`AreStructured`), each with as many holes as views directly below it, are the
+/// views of the transaction that they are put back to.
 pub fn structured_views_are_those_of_the_rules()
     ensures { (roles : Action → Roles) (views : Forest SplitView) → AreFilled views → AreStructured roles views
         → split roles (assembled views) ≡ views }
 {}
 
-/// A request that is told and shown by the rules is sound where its actions have roles, and where each of its views is vouched for.
+/// A request of which everybody is told and shown what the rules ask for (`IsByRules`) is sound where its actions have roles, and also where each of
+/// its views is vouched for.
 pub fn requests_by_the_rules_are_sound()
     ensures roles { (reading : Reading) (request : Request) (sender : Name) (transaction : Transaction)
         → ((p : ParticipantId) (name : Name) → reading.confirms p name ≡ true → reading.hosts p name ≡ true)

@@ -33,7 +33,7 @@ pub(crate) fn outline_of(alloc: Global, told: ToldTree) -> Result<Outline, Alloc
     })
 }
 
-/// What the mediator's bytes of a request tell, and none where they can't be read. Those of a framed request can.
+/// What the mediator's bytes of a request tell, and None where they can't be read. Those of a framed request can. Err is want of memory.
 pub fn read_outline(alloc: Global, request: &Request) -> Result<Option<Outline>, AllocError>
     ensures none { IfOk result (λ o. IfNone o ((topology : Topology) → is_framed topology request.now ≡ false)) }
     ensures some { IfOk result (λ o. IfSome o (λ outline. IsOutline request.now outline)) }

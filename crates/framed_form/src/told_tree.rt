@@ -18,7 +18,7 @@ pub struct ToldTree {
     pub roles: RolesTree,
 }
 
-/// The tree that bytes spell, and none exactly where they spell none.
+/// The tree that bytes spell, and None exactly where they spell none. Err is want of memory.
 pub fn tree_in(alloc: Global, bytes: &[u8]) -> Result<Option<Tree>, AllocError>
     ensures exact { IfOk result (λ tree. tree ≡ tree_in bytes.now) }
     ensures fits { IfOk result (λ o. IfSome o (λ tree. IsTree tree)) }
@@ -30,7 +30,8 @@ pub fn tree_in(alloc: Global, bytes: &[u8]) -> Result<Option<Tree>, AllocError>
     }
 }
 
-/// The mediator's tree of a request, and none where its bytes can't be read. Those of a framed request can.
+/// The mediator's tree of a request with what it tells, and None where the mediator's bytes can't be read. Those of a framed request can. Err is want
+/// of memory.
 pub fn read_told_tree(alloc: Global, request: &Request) -> Result<Option<ToldTree>, AllocError>
     ensures none { IfOk result (λ o. IfNone o ((topology : Topology) → is_framed topology request.now ≡ false)) }
     ensures some { IfOk result (λ o. IfSome o (λ told. IsTold request.now told)) }

@@ -3,6 +3,7 @@ use Rattle.std.specs.Prelude.{ℕ}
 use Rattle.hash_id.specs.declared.tag.Tag.{Tag}
 use Rattle.hash_id.specs.declared.tag.Tag.TheVariants.{ContractId, ChildSeed, RootSeed, Leaf, View, Tree, LeafSalt}
 
+-- the byte with which each hashed string of that tag begins, so that the strings of two tags are never the same
 abbrev pub tag_byte : Tag → ℕ
 tag_byte ContractId = 1
 tag_byte ChildSeed = 2

@@ -29,7 +29,7 @@ pub fn child_seed(seed: &Hash, index: u32) -> Hash
     Hash(hasher.finalize())
 }
 
-/// The seed of a participant's command, from which the seeds of all its actions come.
+/// The seed of the command with this id of the participant with this name, from which the seeds of all its actions come.
 pub fn root_seed(participant: Name, command: Name) -> Hash
     ensures { result ≡ sha256 (root_seed_string participant command) }
 {

@@ -8,8 +8,8 @@ use crate::tag::Tag;
 use ledger_terms::Hash;
 use sha2::{Digest, Sha256};
 
-/// The salt of a leaf of that kind: 1 common, 2 requesters, 3 informees, 4 contents. The seed is that of the leaf's
-/// transaction or of its view's first action.
+/// The salt of a leaf of that kind: 1 common, 2 requesters, 3 informees, 4 contents. It is hashed with the leaf's bytes, so that the hash doesn't
+/// give them away. The seed is that of the leaf's transaction or of its view's first action.
 pub fn leaf_salt(kind: u8, seed: &Hash) -> Hash
     ensures { result ≡ sha256 (leaf_salt_string kind seed.now) }
 {
@@ -18,7 +18,7 @@ pub fn leaf_salt(kind: u8, seed: &Hash) -> Hash
     Hash(hasher.finalize())
 }
 
-/// The hash of a leaf of that kind with that salt and those bytes.
+/// The hash of a leaf with that kind (1 common, 2 requesters, 3 informees, 4 contents), that salt and those bytes.
 pub fn leaf_hash(kind: u8, salt: &Hash, bytes: &[u8]) -> Hash
     ensures { result ≡ sha256 (leaf_hash_string kind salt.now bytes.now) }
 {
@@ -28,7 +28,7 @@ pub fn leaf_hash(kind: u8, salt: &Hash, bytes: &[u8]) -> Hash
     Hash(hasher.finalize())
 }
 
-/// The hash of a view over those of its informees, of its contents and of its subviews.
+/// The hash of a view's vertex, over the hashes of its leaf of informees, of its leaf of contents and of the views directly below it, in order.
 pub fn view_hash(informees: &Hash, contents: &Hash, subviews: &[Hash]) -> Hash
     requires { length subviews.now < 2 ^ 32 }
     ensures { result ≡ sha256 (view_hash_string informees.now contents.now subviews.now) }
@@ -36,7 +36,7 @@ pub fn view_hash(informees: &Hash, contents: &Hash, subviews: &[Hash]) -> Hash
     inner_hash(Tag::View, informees, contents, subviews)
 }
 
-/// The hash of a tree over those of its common part, of its requesters and of its root views.
+/// The hash of a whole tree, over the hashes of its common leaf, of its leaf of requesters and of its root views, in order.
 pub fn tree_hash(common: &Hash, requesters: &Hash, views: &[Hash]) -> Hash
     requires { length views.now < 2 ^ 32 }
     ensures { result ≡ sha256 (tree_hash_string common.now requesters.now views.now) }

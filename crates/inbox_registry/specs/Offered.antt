@@ -13,25 +13,27 @@ use Rattle.pruned_inbox.specs.Start.{Start, active_kept}
 use Rattle.inbox_registry.specs.Changes.{NoneGone, StandsBelow, changes_in, changes_since}
 use Rattle.inbox_registry.specs.Order.{IsInOrder}
 
--- at most one of these actions creates the contract, whichever it is
+-- no contract is created by two of these actions
 abbrev pub CreatedOnce : List Placed → Type 0
 CreatedOnce ps = (c : Hash) → length (filter (creates c) (acts_of ps)) ≤ 1
 
--- what is offered are the active contracts at the end of the inbox that a start and the items since make, in order of creation, though
--- the store was written in the order in which verdicts were read
+-- What a participant offers to its submissions are the active contracts at the inbox's end that a start and the items since make, in order of
+-- creation, though the store was written in the order in which verdicts were read. It is the law `offered_is_active`.
 abbrev pub OfferedIsActive : Type 0
 OfferedIsActive = (reading : Reading) (party : ParticipantId) (b : ℕ) (start : Start) (items : List Item) → IsInOrder items → StandsBelow b start items
     → CreatedOnce (changes_since reading start items) → NoneGone start (changes_since reading start items) → b ≤ length items
     → filter (λ (a : ActiveRow). is_stakeholder_hosted reading party a.known.instance) (active_rows (written (changes_since reading start items) []))
     ≡ active_kept reading party start items (length items)
 
--- the same of an inbox of which nothing is forgotten
+-- What a participant offers to its submissions, where its inbox has forgotten nothing and creates no contract twice, are the model's active contracts
+-- at its end. It is the law `offered_is_node_active`.
 abbrev pub OfferedIsNodeActive : Type 0
 OfferedIsNodeActive = (reading : Reading) (party : ParticipantId) (items : List Item) → IsInOrder items → CreatedOnce (changes_in reading items)
     → filter (λ (a : ActiveRow). is_stakeholder_hosted reading party a.known.instance) (active_rows (written (changes_in reading items) []))
     ≡ node_active reading party items (length items)
 
--- so it is over genuine logs without collisions, whose ledger creates no contract twice
+-- What a participant offers after the first n entries of a genuine log without collisions, whose ledger creates no contract twice, are the model's
+-- active contracts there. It is the law `offered_of_genuine_log`.
 abbrev pub OfferedOfGenuineLog : Type 0
 OfferedOfGenuineLog = (reading : Reading) (params : Params) (log : List Entry) (party : ParticipantId) (n : ℕ)
     → IsReading reading → NoCollision reading log → Genuine reading params log → n ≤ length log

@@ -15,18 +15,19 @@ use Rattle.pruned_inbox.specs.Start.{Start, is_gone}
 use Rattle.inbox_registry.specs.Changes.{changes_since, pending_changes}
 use Rattle.inbox_registry.specs.Requests.{pairs_in}
 
+-- what contracts see of a registry: its store, its tracker and its start
 pub record Registered : Type 0 where
   pub store : Stored
   pub tracking : Tracking
   -- what the inbox left at its base
   pub start : Start
 
--- what rows say of a contract, where those that are gone count as consumed
+-- the status that the rows of a store say of a contract, where one that is gone by the start counts as consumed
 abbrev pub known_status : Start → List StoreRow → Hash → Status
 known_status start rows c = if is_gone start c then Consumed else status_in rows c
 
--- The store has the contracts of the start and the changes of the approved requests and holds those of the requests that aren't decided, and the tracker has
--- the requests that were received, with what became of them.
+-- A registry follows an inbox: its store has the contracts of the start and the changes of the approved requests, and holds for those that aren't
+-- decided, and its tracker has the requests that were received, with what became of them.
 pub record Follows (reading : Reading) (params : Params) (start : Start) (items : List Item) (stands : Registered) : Type 0 where
   pub rows : (stands.store).rows ≡ written (changes_since reading start items) []
   pub holds : (stands.store).holds ≡ holding (pending_changes reading params items)

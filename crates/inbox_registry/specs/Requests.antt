@@ -8,19 +8,21 @@ use Rattle.canton_model.specs.declared.outcome.Outcome.TheVariants.{Undecided, A
 use Rattle.request_track.specs.Pairs.{Pair, outcome_at}
 use Rattle.request_track.specs.declared.tracked.Tracked.{Tracked}
 
--- a time as it can be told
+-- a time in microseconds as 64 bits have it: the greatest number of 64 bits where it is greater
 abbrev pub told_time : ℕ → ℕ
 told_time time = min time (2 ^ 64 - 1)
 
+-- the decision time of a request whose entry has this time
 abbrev pub decision_after : Params → (time : ℕ) → ℕ
 decision_after params time = time + params.response_timeout + params.reaction_timeout
 
--- what is tracked of the request at a place, which came at that time
+-- what is tracked of the request at a place whose entry has this time: its decision time and what became of it over these moments, which are the
+-- inbox's
 abbrev pub tracked_of : Params → List Moment → (place time : ℕ) → Tracked
 tracked_of params moments place time =
     record { decision = told_time (decision_after params time); outcome = kind_of (outcome_of moments place (decision_after params time)) }
 
--- of items the first of which stands at a place
+-- what is tracked of the requests among these items, the first of which stands at place k; the moments are those of the whole inbox
 abbrev pub pairs_from : Params → List Moment → ℕ → List Item → List Pair
 pairs_from params moments k [] = []
 pairs_from params moments k (item ∷ rest) =
@@ -28,14 +30,15 @@ pairs_from params moments k (item ∷ rest) =
     then (k, tracked_of params moments k item.time) ∷ pairs_from params moments (suc k) rest
     else pairs_from params moments (suc k) rest
 
--- the requests that were received, each with its decision time and what became of it over the inbox
+-- the requests of an inbox, each with its place, its decision time and what became of it over the whole inbox
 abbrev pub pairs_in : Params → List Item → List Pair
 pairs_in params items = pairs_from params (moments items) 0 items
 
--- what became of the request that was received at a place
+-- what became over the inbox of the request at a place, and None where the participant received none there
 abbrev pub outcome_received : Params → List Item → ℕ → Option Outcome
 outcome_received params items place = option_map (λ (notice : Notice). kind_of (outcome_in params items place)) (notice_at items place)
 
+-- whether a request that may not be there (None) is approved
 abbrev pub is_approved : Option Outcome → Bool
 is_approved None = false
 is_approved (Some Undecided) = false
@@ -44,7 +47,8 @@ is_approved (Some Rejected) = false
 is_approved (Some TimedOut) = false
 is_approved (Some Expired) = false
 
--- a place is withheld exactly where the request that is tracked there is approved, and its envelope doesn't open what is seen of it
+-- A place is withheld exactly where the request that is tracked there is approved and its envelope doesn't open what the participant sees of it. It
+-- is the law `withheld_is_tracked`.
 abbrev pub WithheldIsTracked : Type 0
 WithheldIsTracked = (params : Params) (items : List Item) (place : ℕ)
     → is_withheld_in items place ≡ (is_approved (outcome_at (pairs_in params items) place) && is_kept_from (notice_at items place))

@@ -54,7 +54,7 @@ fn set_of(alloc: Global, ids: &HashList) -> Result<IndexMap<Hash, ()>, AllocErro
 }
 
 impl KeptStart {
-    /// Nothing was forgotten.
+    /// The start of an inbox that has forgotten nothing: no contracts and no ids.
     pub fn new(alloc: Global) -> KeptStart
         ensures { result ≡ no_start }
     {
@@ -64,7 +64,7 @@ impl KeptStart {
         }
     }
 
-    /// These contracts, and these ids of others.
+    /// The start with these active contracts, in order of creation, and these ids of contracts that are gone, which rise.
     pub fn of(
         alloc: Global,
         active: ActiveRowList,
@@ -78,14 +78,14 @@ impl KeptStart {
         Ok(KeptStart { active, gone })
     }
 
-    /// The contracts that were left active.
+    /// The contracts that were active at the base, in order of creation.
     pub fn active(&self) -> &ActiveRowList
         ensures { result.now ≡ self.now.active }
     {
         &self.active
     }
 
-    /// The ids of those that are gone, ascending.
+    /// The ids of the contracts that are gone, in rising order.
     pub fn gone(&self) -> &[Hash]
         ensures ids { result.now ≡ self.now.gone }
         ensures ascend { IsRising self.now.gone }
@@ -93,7 +93,7 @@ impl KeptStart {
         self.gone.keys().as_slice()
     }
 
-    /// Whether a contract is gone.
+    /// Whether the contract with this id is gone: requests below the base create or consume it, and it isn't active there.
     pub fn is_gone(&self, id: &Hash) -> bool
         ensures { result ≡ is_gone self.now id.now }
     {

@@ -2,23 +2,25 @@
 ghost use Rattle.inbox_registry.specs.Offered.{OfferedIsActive, OfferedIsNodeActive, OfferedOfGenuineLog};
 ghost use Rattle.inbox_registry.specs.Requests.{WithheldIsTracked};
 
-/// Where no contract is created twice, the active contracts with a hosted stakeholder of a store into which an inbox's approved
-/// requests were written in the order in which their verdicts were read are the model's, in the model's order.
+/// What a participant offers to its submissions are the model's active contracts, in the model's order, where no contract is created twice: those
+/// with a hosted stakeholder in a store into which its inbox's approved requests were written, in the order in which their verdicts were read.
 pub fn offered_is_node_active()
     ensures { OfferedIsNodeActive }
 {}
 
-/// So it is of a store that begins with what a start left, where no contract is created twice, one of the start among them, and none that is gone.
+/// What a participant offers to its submissions are the active contracts at its inbox's end also where the inbox begins at a base, and the store with
+/// what the start left active, if no contract is created twice, those of the start counted, and none that is gone is created.
 pub fn offered_is_active()
     ensures { OfferedIsActive }
 {}
 
-/// After any number of entries of a genuine log without collisions no contract is created twice, so that these are the model's.
+/// After any number of entries of a genuine log without collisions no contract is created twice, so that what its participants offer are the model's
+/// active contracts.
 pub fn offered_of_genuine_log()
     ensures { OfferedOfGenuineLog }
 {}
 
-/// What became of the tracked requests, with what was learnt of each, tells which places are withheld.
+/// Which places are withheld from a participant can be told by what became of the requests that it tracks and what it learnt of each.
 pub fn withheld_is_tracked()
     ensures { WithheldIsTracked }
 {}

@@ -7,7 +7,7 @@ ghost use Rattle.inbox_registry.specs.Steps.{HoldsFollow, InStep, Passing};
 use contract_store::Store;
 use request_track::{Outcome, Tracker};
 
-// The request at a place, which is late, expires, and holds nothing any more.
+// Lets the request at a place, which is late, expire and hold nothing any more.
 fn expire_one(store: &mut Store, tracker: &mut Tracker, place: u64, time: u64)
     requires { is_late time tracker.old.pairs place ≡ true }
     ensures step { (start : List Pair) (held : List Hold) → Passing time start tracker.old.pairs held store.old.holds
@@ -22,8 +22,8 @@ fn expire_one(store: &mut Store, tracker: &mut Tracker, place: u64, time: u64)
     tracker.settle(place, Outcome::Expired);
 }
 
-/// Each undecided request whose decision time is below the time expires, and holds nothing any more. As decision times rise with
-/// places, only these are walked.
+/// Lets each undecided request expire whose decision time is before `time`, and releases its holds. As decision times rise with places, only these
+/// requests are walked.
 pub fn pass_time(store: &mut Store, tracker: &mut Tracker, time: u64)
     requires { InStep tracker.old.pairs }
     ensures pairs { tracker.new.pairs ≡ expired time tracker.old.pairs }

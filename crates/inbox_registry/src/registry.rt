@@ -38,7 +38,7 @@ impl Model for Registry {
 }
 
 impl Registry {
-    /// Nothing was read.
+    /// The registry of an inbox that has no items, and has forgotten nothing.
     pub fn new(alloc: Global) -> Registry
         ensures rows { result.store.rows ≡ [] }
         ensures holds { result.store.holds ≡ [] }
@@ -49,7 +49,8 @@ impl Registry {
         Registry::at(alloc, 0, KeptStart::new(alloc))
     }
 
-    /// So many entries were read, which left this, and the store is empty still.
+    /// The registry of an inbox that begins at its base: `cursor` entries were read, and left this start. The start's active contracts aren't in the
+    /// store yet; `write` puts them there.
     pub fn at(alloc: Global, cursor: u64, start: KeptStart) -> Registry
         ensures rows { result.store.rows ≡ [] }
         ensures holds { result.store.holds ≡ [] }
@@ -64,14 +65,14 @@ impl Registry {
         }
     }
 
-    /// What was left at the base.
+    /// What the inbox left at its base.
     pub fn start(&self) -> &KeptStart
         ensures { result.now ≡ self.now.start }
     {
         &self.start
     }
 
-    /// What is known of a contract. One that is gone was consumed.
+    /// The status of the contract with this id. One that is gone counts as consumed.
     pub fn status(&self, id: &Hash) -> Status
         ensures { result ≡ known_status self.now.start self.now.store.rows id.now }
     {
@@ -82,7 +83,8 @@ impl Registry {
         }
     }
 
-    /// A contract was created at a place, before anything that was read, in the room that is there.
+    /// Writes into the store what the request at a place did, before anything that was read since the base, as for a start's active contracts. Room
+    /// was made for it, so it takes no memory.
     pub fn write(&mut self, place: u64, changes: Vec<Change>)
         requires { HasRoom self.old.store.ready self.old.store.spare changes.items }
         ensures rows { self.new.store.rows ≡ write_changes place changes.items self.old.store.rows }
@@ -93,14 +95,14 @@ impl Registry {
         write_all(&mut self.store, place, changes);
     }
 
-    /// What is known of contracts, and who holds them.
+    /// The store, which has the contracts with their status and the holds on them.
     pub fn store(&self) -> &Store
         ensures { result.now ≡ self.now.store }
     {
         &self.store
     }
 
-    /// What became of the request at a place, and none exactly where none is tracked there.
+    /// What became of the request at a place, Undecided as long as nothing did. None exactly where none is tracked there.
     pub fn outcome(&self, place: u64) -> Option<Outcome>
         ensures { result ≡ outcome_at self.now.tracking.pairs place }
     {
@@ -114,14 +116,15 @@ impl Registry {
         self.tracker.cursor()
     }
 
-    /// The least place of an undecided request, and at most the cursor.
+    /// The clean place: the least place of an undecided request, and the cursor where there is none.
     pub fn clean(&self) -> u64
         ensures { result ≡ clean_of self.now.tracking.pairs self.now.tracking.cursor }
     {
         self.tracker.clean()
     }
 
-    /// A request comes at the cursor, and there is room for its holds.
+    /// Tracks the request that comes at the cursor, whose decision time is `decision`, in microseconds, and makes room for its holds on the contracts
+    /// with these ids.
     pub fn begin(&mut self, decision: u64, ids: &HashList) -> Result<(), AllocError>
         requires { tracked_at self.old.tracking.pairs self.old.tracking.cursor ≡ None }
         ensures rows { self.new.store.rows ≡ self.old.store.rows }
@@ -139,7 +142,7 @@ impl Registry {
         self.tracker.begin(place, decision)
     }
 
-    /// There is room for these changes.
+    /// Makes room for these changes, so that they can be written without memory.
     pub fn make_room(&mut self, changes: &Vec<Change>) -> Result<(), AllocError>
         ensures rows { self.new.store.rows ≡ self.old.store.rows }
         ensures holds { self.new.store.holds ≡ self.old.store.holds }
@@ -150,7 +153,7 @@ impl Registry {
         make_room(&mut self.store, changes)
     }
 
-    /// Time passes: each undecided request whose decision time is below it expires, and holds nothing any more.
+    /// Lets each undecided request expire whose decision time is before `time`, in microseconds, and releases its holds.
     pub fn pass(&mut self, time: u64)
         requires { InStep self.old.tracking.pairs }
         ensures pairs { self.new.tracking.pairs ≡ expired time self.old.tracking.pairs }
@@ -164,7 +167,7 @@ impl Registry {
         pass_time(&mut self.store, &mut self.tracker, time);
     }
 
-    /// The request at a place holds these contracts, in the room that is there.
+    /// Notes that the request at a place holds the contracts with these ids. Room was made for it, so it takes no memory.
     pub fn hold(&mut self, place: u64, ids: &HashList)
         requires spare { length ids.now ≤ self.old.store.spare }
         requires ready { All (λ c. is_ready self.old.store.ready c ≡ true) ids.now }
@@ -176,7 +179,8 @@ impl Registry {
         hold_all(&mut self.store, place, ids);
     }
 
-    /// The request at a place gets the outcome, holds nothing any more, and makes these changes, in the room that is there.
+    /// Gives the request at a place this outcome, releases its holds and writes these changes, which are those of an approved one. Room was made for
+    /// it, so it takes no memory.
     pub fn settle(&mut self, place: u64, outcome: Outcome, changes: Vec<Change>)
         requires { HasRoom self.old.store.ready self.old.store.spare changes.items }
         ensures rows { self.new.store.rows ≡ write_changes place changes.items self.old.store.rows }
@@ -190,7 +194,7 @@ impl Registry {
         write_all(&mut self.store, place, changes);
     }
 
-    /// One entry more is read.
+    /// Notes that one entry more is read.
     pub fn advance(&mut self)
         requires { self.old.tracking.cursor + 1 < 2 ^ 64 }
         ensures store { self.new.store ≡ self.old.store }

@@ -8,7 +8,7 @@ use crate::change::Change;
 use contract_store::{HashList, Store};
 use std::alloc::AllocError;
 
-/// Makes room in a store for these changes.
+/// Makes room in a store for these changes, so that `write_all` takes no memory.
 pub fn make_room(store: &mut Store, changes: &Vec<Change>) -> Result<(), AllocError>
     ensures rows { store.new.rows ≡ store.old.rows }
     ensures holds { store.new.holds ≡ store.old.holds }
@@ -21,7 +21,7 @@ pub fn make_room(store: &mut Store, changes: &Vec<Change>) -> Result<(), AllocEr
     Ok(())
 }
 
-// One change by the request at a place.
+// Writes one change by the request at a place.
 fn write_one(store: &mut Store, place: u64, change: Change)
     requires spare { 0 < store.old.spare }
     requires ready { IsPrepared store.old.ready change }
@@ -37,7 +37,7 @@ fn write_one(store: &mut Store, place: u64, change: Change)
     }
 }
 
-/// The changes by the request at a place, in the room that is there.
+/// Writes these changes by the request at a place, in order. Room was made for it, so it takes no memory.
 pub fn write_all(store: &mut Store, place: u64, changes: Vec<Change>)
     requires { HasRoom store.old.ready store.old.spare changes.items }
     ensures rows { store.new.rows ≡ write_changes place changes.items store.old.rows }
@@ -48,7 +48,7 @@ pub fn write_all(store: &mut Store, place: u64, changes: Vec<Change>)
     }
 }
 
-/// The request at a place holds these contracts, in the room that is there.
+/// Notes that the request at a place holds the contracts with these ids. Room was made for it, so it takes no memory.
 pub fn hold_all(store: &mut Store, place: u64, ids: &HashList)
     requires spare { length ids.now ≤ store.old.spare }
     requires ready { All (λ c. is_ready store.old.ready c ≡ true) ids.now }

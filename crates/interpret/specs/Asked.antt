@@ -1,4 +1,5 @@
--- What the body of a choice asks for, and what commands do.
+-- What the body of a choice asks for, and what commands do, as the code has both in one type (`Asking`). The definitions say the same in
+-- `body_source` and `commands_source`.
 use Rattle.std.specs.Prelude.{ℕ, List, [], ◌∷◌, ◌++◌, slice_get}
 use Rattle.ledger_terms.specs.declared.known.Known.{Known}
 use Rattle.ledger_terms.specs.declared.action.Action.{Action}
@@ -11,15 +12,17 @@ use Rattle.interpret.specs.declared.asking.Asking.TheVariants.{Body, Commands}
 use Rattle.interpret.specs.Act.{Source, Turn, turn_of}
 use Rattle.interpret.specs.Commands.{command_turn}
 
+-- what is asked for at an index, after what was learnt of the children before (`seen`); `path` leads to the Exercise whose body asks
 abbrev pub asked_turn : Packages → List Known → List ℕ → Asking → ℕ → List ChildResult → Turn
 asked_turn packages known path (Body call) index seen = turn_of path (next packages call.now seen)
 asked_turn packages known path (Commands commands) index seen = command_turn packages known index (slice_get commands.now index)
 
--- A command learns nothing of those before it.
+-- what is known after one more action: a body learns its result, and a command learns nothing of those before it
 abbrev pub learnt : Asking → List ChildResult → Action → List ChildResult
 learnt (Body call) seen a = seen ++ result_of_child a ∷ []
 learnt (Commands commands) seen a = []
 
+-- the source of actions that a body or commands are, for what stands below this path
 abbrev pub source_of : Packages → List Known → List ℕ → Asking → Source
 source_of packages known path asking =
     record {

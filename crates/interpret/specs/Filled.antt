@@ -1,4 +1,4 @@
--- A prepared tree with its seeds and ids.
+-- A prepared tree with its seeds and ids, or the first fault. `known` are the contracts that labels and inputs may name.
 use Rattle.std.specs.Prelude.{ℕ, ◌+◌, ◌-◌, Bool, true, ◌&&◌, cond, nat_le, is_some, List, [], ◌∷◌, ◌++◌, Option, Some, None, Result, Ok, Err}
 use Rattle.std.specs.List.{list_all}
 use Rattle.ledger_terms.specs.declared.known.Known.{Known}
@@ -31,96 +31,114 @@ use Rattle.interpret.specs.Commands.{referenced_values, referenced_id, reference
 use Rattle.interpret.specs.Interpreted.{if_small}
 use Rattle.interpret.specs.Stops.{is_zero}
 
--- each label names a known contract
+-- whether a reference names a contract as far as labels go: a label has to name a known contract, an id is taken as it is
 abbrev pub is_named : List Known → ContractRef → Bool
 is_named known (Id id) = true
 is_named known (Label l) = is_some (find_salt (label_seed l) known)
 
+-- whether a field or argument that is handed in is a value, an id, or a label that names a known contract
 abbrev pub is_arg_named : List Known → Arg → Bool
 is_arg_named known (Plain v) = true
 is_arg_named known (Contract r) = is_named known r
 
+-- whether each label among fields or arguments names a known contract
 abbrev pub are_named : List Known → List Arg → Bool
 are_named known args = list_all (λ a. is_arg_named known a) args
 
+-- whether the id that is handed in with a contract, if it is a label, names a known contract; without an id, or with another one, it is true
 abbrev pub is_id_named : List Known → Option ContractRef → Bool
 is_id_named known None = true
 is_id_named known (Some r) = is_named known r
 
+-- whether each label in the input of a draft names a known contract
 abbrev pub is_input_named : List Known → Input → Bool
 is_input_named known (KnownInput r) = is_named known r
 is_input_named known (Forged id salt template fields) = is_id_named known id && are_named known fields
 
+-- whether each label in a draft, without its consequences, names a known contract
 abbrev pub is_draft_named : List Known → DraftAction → Bool
 is_draft_named known (DraftCreate template fields) = are_named known fields
 is_draft_named known (DraftExercise input choice args actors consuming result) =
     is_input_named known input && (are_named known args && is_arg_named known result)
 is_draft_named known (DraftFetch input actors) = is_input_named known input
 
+-- whether each label in drafts, with all their consequences, names a known contract
 abbrev pub all_named : List Known → Drafts → Bool
 all_named known NoRoots = true
 all_named known (Root d children others) = all_named known children && (all_named known others && is_draft_named known d)
 
--- the known contract that a reference names
+-- the known contract that a reference names, by its id or by the seed of its label; None where none is known
 abbrev pub known_of : List Known → ContractRef → Option Known
 known_of known (Id id) = find_known id known
 known_of known (Label l) = find_salt (label_seed l) known
 
--- An instance without a spelling has no id. The encoded bytes of its action exceed the limit, so nobody sees one.
+-- The id of a contract with this salt. An instance without a spelling has no id, and gets the salt in its place: the encoded bytes of its
+-- action exceed the limit, so nobody sees one.
 unfoldable pub id_of : Hash → Instance → Hash
 id_of salt i = cond (are_spelled i.fields) (contract_id salt i) salt
 
+-- the id of a contract that is handed in: the one that is handed in with it, or that of its salt and instance; None for a label without a contract
 abbrev pub forged_id : List Known → Option ContractRef → Hash → Instance → Option Hash
 forged_id known None salt i = Some (id_of salt i)
 forged_id known (Some r) salt i = referenced_id known r
 
+-- what `go` makes of the values of fields, and None where they aren't there
 abbrev pub with_fields : Option (List Value) → (List Value → Option Known) → Option Known
 with_fields None go = None
 with_fields (Some values) go = go values
 
+-- the contract of this salt and instance with an id that was looked up; None without an id
 abbrev pub with_id : Hash → Instance → Option Hash → Option Known
 with_id salt i None = None
 with_id salt i (Some id) = Some (record { id = id; salt = salt; instance = i })
 
+-- the instance of a template with these values
 abbrev pub instance_of : TemplateName → List Value → Instance
 instance_of template values = record { template = template; fields = values }
 
+-- the contract that is handed in with these parts; None where a label among them names no known contract
 abbrev pub forged_contract : List Known → Option ContractRef → Hash → TemplateName → List Arg → Option Known
 forged_contract known id salt template fields =
     with_fields (referenced_values known fields) (λ values. with_id salt (instance_of template values) (forged_id known id salt (instance_of template values)))
 
--- what an input stands for: a known contract whatever the tree does, or what is handed in
+-- The contract that the input of a draft stands for: a known one, whatever the tree itself does, or what is handed in. None where a contract
+-- that it says is known isn't, or a label in it names no known contract.
 abbrev pub input_of : List Known → Input → Option Known
 input_of known (KnownInput r) = known_of known r
 input_of known (Forged id salt template fields) = forged_contract known id salt template fields
 
+-- what `go` makes of what was looked up, and None where it isn't there
 abbrev pub there : {A B : Type 0} → Option A → (A → Option B) → Option B
 there None go = None
 there (Some x) go = go x
 
+-- The Exercise of a draft with these parts. None where its contract is said to be known and isn't, or a label in it names no known contract.
 abbrev pub exercise_of_draft : List Known → Input → List ℕ → List Arg → List (List ℕ) → Bool → Arg → Option Action
 exercise_of_draft known input choice args actors consuming result =
     there (input_of known input) (λ k. there (referenced_values known args) (λ values. there (referenced_value known result) (λ v.
     Some (Exercise k.id k.salt k.instance choice values actors consuming v))))
 
+-- The Fetch of a draft with these parts. None where its contract is said to be known and isn't, or a label in it names no known contract.
 abbrev pub fetch_of_draft : List Known → Input → List (List ℕ) → Option Action
 fetch_of_draft known input actors = there (input_of known input) (λ k. Some (Fetch k.id k.salt k.instance actors))
 
--- the action of a draft with its seed, where the contracts that it names are known
+-- The action of a draft with this seed. None where its contract is said to be known and isn't, or a label in it names no known contract.
 abbrev pub filled_action : List Known → Hash → DraftAction → Option Action
 filled_action known seed (DraftCreate template fields) =
     there (referenced_values known fields) (λ values. Some (Create (id_of seed (instance_of template values)) (instance_of template values)))
 filled_action known seed (DraftExercise input choice args actors consuming result) = exercise_of_draft known input choice args actors consuming result
 filled_action known seed (DraftFetch input actors) = fetch_of_draft known input actors
 
--- one tree: depth, number and contract are tried, and then what stands below
+-- One draft as a tree with its seed and id, and how many actions there are then. Its depth, the number of actions and its contract are tried,
+-- and then `below`, which fills what stands below it after so many actions. `count` actions stand before it.
 abbrev pub fill_one : List Known → ℕ → List ℕ → Hash → ℕ → DraftAction → (ℕ → Result (Actions × ℕ) CommandFault) → Result (Actions × ℕ) CommandFault
 fill_one known left path seed count d below =
     cond (is_zero left) (Err (TooDeep path)) (cond (nat_le MOST_ACTIONS count) (Err (TooMany path))
     (where_there (filled_action known seed d) (ContractUnknown path) (λ action.
     on (below (count + 1)) (λ b. Ok (Root (record { seed = seed; action = action }) b.0 NoRoots, b.1)))))
 
--- trees one after another, with so many actions before them
+-- Drafts as trees one after another, and how many actions there are then. `left` levels may be used; seed and path are those of what is above;
+-- the first has this index, and `count` actions stand before it.
 abbrev pub fill_all : List Known → ℕ → Hash → List ℕ → ℕ → ℕ → Drafts → Result (Actions × ℕ) CommandFault
 fill_all known left seed path index count NoRoots = Ok (NoRoots, count)
 fill_all known left seed path index count (Root d children others) =
@@ -128,25 +146,28 @@ fill_all known left seed path index count (Root d children others) =
     (λ n. fill_all known (left - 1) (child_seed seed index) (path ++ index ∷ []) 0 n children)) (λ x.
     on (fill_all known left seed path (index + 1) x.1 others) (λ y. Ok (join x.0 y.0, y.1)))
 
--- one draft with what stands below it
+-- The first of these drafts alone, which has this path and this seed, as a tree with what stands below it, and how many actions there are then. No
+-- drafts give no tree.
 abbrev pub fill_tree : List Known → ℕ → List ℕ → Hash → ℕ → Drafts → Result (Actions × ℕ) CommandFault
 fill_tree known left path seed count NoRoots = Ok (NoRoots, count)
 fill_tree known left path seed count (Root d children others) = fill_one known left path seed count d (λ n. fill_all known (left - 1) seed path 0 n children)
 
--- what the code answers
+-- What the code's `fill_draft` answers, and the count of actions that it leaves where it was handed in, as `fill_tree` answers both.
 abbrev pub node_answer : Result ActionNode CommandFault → ℕ → Result (Actions × ℕ) CommandFault
 node_answer (Ok n) count = Ok (tree_of n, count)
 node_answer (Err e) count = Err e
 
+-- What the code's `fill_list` answers, and the count of actions that it leaves where it was handed in, as `fill_all` answers both.
 abbrev pub list_answer : Result Actions CommandFault → ℕ → Result (Actions × ℕ) CommandFault
 list_answer (Ok f) count = Ok (f, count)
 list_answer (Err e) count = Err e
 
--- trees behind others
+-- these trees in front of those that were filled; a fault stays one (for a proof about loops)
 abbrev pub behind : Actions → Result (Actions × ℕ) CommandFault → Result (Actions × ℕ) CommandFault
 behind front r = on r (λ y. Ok (join front y.0, y.1))
 
--- roots, the labels of each of which are resolved first
+-- Root drafts as trees one after another, and how many actions there are then. The first has this index; the labels of each root are tried
+-- before its actions (ContractUnknown at the root).
 abbrev pub fill_roots : List Known → Hash → ℕ → ℕ → Drafts → Result (Actions × ℕ) CommandFault
 fill_roots known seed index count NoRoots = Ok (NoRoots, count)
 fill_roots known seed index count (Root d children others) =
@@ -155,9 +176,10 @@ fill_roots known seed index count (Root d children others) =
     on (fill_roots known seed (index + 1) x.1 others) (λ y. Ok (join x.0 y.0, y.1))))
     (Err (ContractUnknown (index ∷ [])))
 
+-- all root drafts as trees, or the first fault
 abbrev pub filled_roots : List Known → Hash → Drafts → Result Actions CommandFault
 filled_roots known seed drafts = on (fill_roots known seed 0 0 drafts) (λ x. Ok x.0)
 
--- the last test is that of the encoded bytes
+-- The transaction that drafts ask for, or the first fault: what `fill` answers. The last test is that of the encoded bytes.
 unfoldable pub filling : List Known → Hash → Drafts → Result Actions CommandFault
 filling known seed drafts = on (filled_roots known seed drafts) if_small

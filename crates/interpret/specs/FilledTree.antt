@@ -1,4 +1,5 @@
--- A finished tree that is what drafts ask for, and where drafts stop: recognised from the drafts as they stand.
+-- A finished tree that is what drafts ask for, and where drafts stop: recognised from the drafts as they stand. `known` are the contracts
+-- that labels and inputs may name.
 use Rattle.std.specs.Prelude.{◌≡◌, ℕ, suc, ◌<◌, ◌≤◌, Bool, true, ◌&&◌, if◌then◌else◌, nat_le, nat_lt, is_some, length, List, [], ◌∷◌, ◌++◌}
 use Rattle.std.specs.Prelude.{Option, Some, None, flat_map, ◌⊎◌}
 use Rattle.ledger_terms.specs.declared.known.Known.{Known}
@@ -28,36 +29,39 @@ use Rattle.ledger_terms.specs.Depth.{depth}
 use Rattle.ledger_terms.specs.declared.limits.TheConstants.{MOST_ACTIONS, MOST_ACTION_DEPTH, MOST_ACTION_BYTES}
 use Rattle.interpret.specs.Filled.{id_of, is_draft_named}
 
--- the contract that a reference names: an id itself, and a label the first known contract whose salt is its seed
+-- A reference names the contract of id `named`: an id names itself, and a label the first known contract whose salt is its seed.
 abbrev pub Names : List Known → ContractRef → Hash → Type 0
 Names known (Id id) named = named ≡ id
 Names known (Label l) named = (k : Known) × (find_salt (label_seed l) known ≡ Some k) × (named ≡ k.id)
 
+-- the value is that of a field or argument that is handed in; a reference gives the contract that it names
 abbrev pub IsValueOf : List Known → Arg → Value → Type 0
 IsValueOf known (Plain v) value = value ≡ v
 IsValueOf known (Contract r) value = (id : Hash) × Names known r id × (value ≡ ContractValue id)
 
+-- the values are those of fields or arguments that are handed in, one for each, in order
 abbrev pub AreValuesOf : List Known → List Arg → List Value → Type 0
 AreValuesOf known [] [] = Unit {0}
 AreValuesOf known (a ∷ as') (v ∷ vs) = IsValueOf known a v × AreValuesOf known as' vs
 AreValuesOf known as' vs = ⊥
 
--- the known contract that a reference names
+-- the reference names the known contract k, by its id or by the seed of its label
 abbrev pub IsKnownAs : List Known → ContractRef → Known → Type 0
 IsKnownAs known (Id id) k = find_known id known ≡ Some k
 IsKnownAs known (Label l) k = find_salt (label_seed l) known ≡ Some k
 
--- the id that is handed in, or that of salt and instance
+-- the last is the id of a contract that is handed in: what its own reference names, or without one that of salt and instance
 abbrev pub IsForgedId : List Known → Option ContractRef → Hash → Instance → Hash → Type 0
 IsForgedId known None salt i id = id ≡ id_of salt i
 IsForgedId known (Some r) salt i id = Names known r id
 
+-- the input of a draft stands for the contract of this id, salt and instance
 abbrev pub IsInputOf : List Known → Input → Hash → Hash → Instance → Type 0
 IsInputOf known (KnownInput r) id salt i = IsKnownAs known r (record { id = id; salt = salt; instance = i })
 IsInputOf known (Forged given salt' template fields) id salt i =
     (salt ≡ salt') × (i.template ≡ template) × AreValuesOf known fields i.fields × IsForgedId known given salt i id
 
--- the action is that of the draft
+-- the action, which has this seed, is that of the draft
 abbrev pub IsActionOf : List Known → Hash → DraftAction → Action → Type 0
 IsActionOf known seed (DraftCreate template fields) (Create id i) =
     (i.template ≡ template) × AreValuesOf known fields i.fields × (id ≡ id_of seed i)
@@ -67,7 +71,7 @@ IsActionOf known seed (DraftExercise input choice args actors consuming result) 
 IsActionOf known seed (DraftFetch input actors) (Fetch id salt i actors') = IsInputOf known input id salt i × (actors' ≡ actors)
 IsActionOf known seed draft action = ⊥
 
--- the trees stand as the drafts do, each action with the seed of its place
+-- the trees stand as the drafts do, each action with the seed of its place below `seed`; the first has this index
 abbrev pub AreFilled : List Known → Hash → ℕ → Drafts → Actions → Type 0
 AreFilled known seed index NoRoots NoRoots = Unit {0}
 AreFilled known seed index (Root d drafts others) (Root act consequences more) =
@@ -77,7 +81,7 @@ AreFilled known seed index (Root d drafts others) (Root act consequences more) =
     × AreFilled known seed (suc index) others more
 AreFilled known seed index drafts actions = ⊥
 
--- the transaction that drafts ask for
+-- the transaction with this seed that drafts ask for, which keeps the limits
 pub record IsFilled (known : List Known) (seed : Hash) (drafts : Drafts) (forest : Actions) : Type 0 where
   pub trees : AreFilled known seed 0 drafts forest
   pub few : size forest ≤ MOST_ACTIONS
@@ -86,22 +90,23 @@ pub record IsFilled (known : List Known) (seed : Hash) (drafts : Drafts) (forest
 
 -- ---- where drafts stop
 
--- a draft with its number in pre-order and its path
+-- a draft with its number in pre-order, from 0, and its path
 abbrev pub Placed : Type 0
 Placed = ℕ × (List ℕ × DraftAction)
 
--- an Input names what is known
+-- the input names a contract that is known, or hands one in
 abbrev pub is_input_known : List Known → Input → Bool
 is_input_known known (KnownInput (Id id)) = is_some (find_known id known)
 is_input_known known (KnownInput (Label l)) = is_some (find_salt (label_seed l) known)
 is_input_known known (Forged given salt template fields) = true
 
+-- the contract that a draft says is known is so; a Create names none
 abbrev pub is_contract_known : List Known → DraftAction → Bool
 is_contract_known known (DraftCreate template fields) = true
 is_contract_known known (DraftExercise input choice args actors consuming result) = is_input_known known input
 is_contract_known known (DraftFetch input actors) = is_input_known known input
 
--- what an action has to pass, in order, each with the fault where it doesn't
+-- the tests of one draft in order, each with the fault where it is false: its depth, its number, and whether its contract is known
 abbrev pub action_tests : List Known → Placed → List (Bool × CommandFault)
 action_tests known x =
     (nat_le (length (x.1).0) MOST_ACTION_DEPTH, TooDeep (x.1).0)
@@ -109,27 +114,29 @@ action_tests known x =
     ∷ (is_contract_known known (x.1).1, ContractUnknown (x.1).0)
     ∷ []
 
--- every label in these drafts names a known contract
+-- every label in these drafts, with all their consequences, names a known contract
 abbrev pub are_placed_named : List Known → Forest Placed → Bool
 are_placed_named known NoRoots = true
 are_placed_named known (Root x below others) =
     are_placed_named known below && (are_placed_named known others && is_draft_named known (x.1).1)
 
--- each root's labels, and then its actions in pre-order
+-- the tests of root drafts in order: for each root that of its labels, and then those of its actions in pre-order
 abbrev pub root_tests : List Known → Forest Placed → List (Bool × CommandFault)
 root_tests known NoRoots = []
 root_tests known (Root x below others) =
     (are_placed_named known (Root x below NoRoots), ContractUnknown (x.1).0)
     ∷ (flat_map (action_tests known) (x ∷ preorder below) ++ root_tests known others)
 
+-- the tests of drafts in order, but for that of the encoded bytes
 abbrev pub tests_of : List Known → Drafts → List (Bool × CommandFault)
 tests_of known drafts = root_tests known (number_from 0 (paths_from [] 0 drafts))
 
+-- the fault of the first test that is false; None where all are true
 abbrev pub first_failing : List (Bool × CommandFault) → Option CommandFault
 first_failing [] = None
 first_failing (t ∷ ts) = if t.0 then first_failing ts else Some t.1
 
--- The first test that fails gives the fault; or none does, and the encoded bytes exceed their limit.
+-- Drafts stop with this fault: the first test that fails gives it; or none does, and the encoded bytes exceed their limit.
 abbrev pub FillStops : List Known → Hash → Drafts → CommandFault → Type 0
 FillStops known seed drafts fault =
     (first_failing (tests_of known drafts) ≡ Some fault)

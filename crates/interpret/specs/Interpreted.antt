@@ -16,21 +16,24 @@ use Rattle.interpret.specs.Act.{BodyRun, act, follow, most_children, on}
 use Rattle.interpret.specs.Commands.{commands_source}
 use Rattle.wire_form.specs.Encoded.{encoded_bytes}
 
--- nothing was done yet
+-- the progress of a transaction that has done nothing yet
 abbrev pub nothing_done : Progress
 nothing_done = record { created = []; consumed = []; count = 0 }
 
--- the roots, 16 levels deep at most
+-- What commands come to: the root actions with all below them, 16 levels deep at most, or the first fault. `known` are the contracts that
+-- they may use, `seed` is the transaction's, and `by` are the requesters, who authorise the roots.
 abbrev pub run_commands : Packages → List Known → Hash → PartyNames → List Command → Result BodyRun CommandFault
 run_commands packages known seed by commands =
     follow most_children (commands_source packages known commands) (act MOST_ACTION_DEPTH packages known) seed [] by nothing_done [] NoRoots 0
 
+-- the root actions of what commands come to, with all below them, or the first fault
 abbrev pub run_roots : Packages → List Known → Hash → PartyNames → List Command → Result Actions CommandFault
 run_roots packages known seed by commands = on (run_commands packages known seed by commands) (λ f. Ok f.children)
 
--- the last test, of the sum of all encoded actions
+-- The last test of a transaction: the actions as they are, or TooBig where their encoded bytes exceed the limit.
 abbrev pub if_small : Actions → Result Actions CommandFault
 if_small forest = cond (nat_le (encoded_bytes forest) MOST_ACTION_BYTES) (Ok forest) (Err (TooBig (capped (encoded_bytes forest))))
 
+-- The transaction that commands ask for, or the first fault: what `interpret` answers. `seed` is the transaction's, and `by` are its requesters.
 unfoldable pub interp : Packages → List Known → Hash → PartyNames → List Command → Result Actions CommandFault
 interp packages known seed by commands = on (run_roots packages known seed by commands) if_small

@@ -1,4 +1,4 @@
--- What a transaction keeps.
+-- The rules that a wanted transaction keeps.
 use Rattle.std.specs.Prelude.{◌≡◌, ◌≤◌, true}
 use Rattle.ledger_terms.specs.Depth.{depth}
 use Rattle.ledger_terms.specs.Forest.{size}
@@ -12,7 +12,7 @@ use Rattle.lang_eval.specs.Parts.{PartyNames}
 use Rattle.interpret.specs.Language.{the_language}
 use Rattle.wire_form.specs.Encoded.{encoded_bytes}
 
--- It conforms, it is authorised by these requesters, and it keeps its limits.
+-- These trees of actions conform, are authorised by these requesters, and keep the limits on actions, levels and encoded bytes.
 pub record KeepsRules (packages : Packages) (act_as : PartyNames) (forest : Actions) : Type 0 where
   pub conforms : Conforms (the_language packages) forest
   pub authorised : is_forest_authorised (roles_of (the_language packages)) act_as forest ≡ true

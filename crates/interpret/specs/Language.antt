@@ -14,27 +14,32 @@ use Rattle.lang_eval.specs.Parts.{PartyNames, parties_of_created, parties_of_cho
 use Rattle.lang_eval.specs.Language.{language_of}
 use Rattle.interpret.specs.Sizes.{is_small_instance, are_small_args, is_small_result}
 
+-- whether an evaluation has a value and no fault
 abbrev pub has_value : {A : Type 0} → Result A EvalFault → Bool
 has_value (Ok v) = true
 has_value (Err e) = false
 
+-- whether both are true or both false
 abbrev pub same_truth : Bool → Bool → Bool
 same_truth a b = cond a b (not b)
 
+-- whether two lists of parties are the same, in order; of sets, which are sorted, whether they have the same parties
 abbrev pub same_parties : PartyNames → PartyNames → Bool
 same_parties = pointwise same_name
 
--- there are such parties, and the controllers are the actors
+-- whether a choice's parties have values, and its controllers are exactly these actors; false where they have a fault
 abbrev pub are_controllers : Result ChoiceParties EvalFault → PartyNames → Bool
 are_controllers (Ok p) actors = same_parties p.controllers actors
 are_controllers (Err e) actors = false
 
--- The instance keeps its limit, its `ensure` is true, and signatories, of whom there is one, and observers have values.
+-- Whether a Create of the instance is possible: it keeps its limit, its `ensure` is true, it has a signatory, and its signatories and observers have
+-- values.
 unfoldable pub is_creatable : Packages → Instance → Bool
 is_creatable packages i = is_small_instance i && has_value (parties_of_created packages i)
 
--- The arguments have the kinds of the choice and keep their limit with the result, the choice is as consuming as the
--- action, the value of its controllers are the actors, and its observers have a value.
+-- Whether an Exercise is possible that is this call, with these actors, so consuming and with this result. The arguments have the kinds of the choice
+-- and keep their limit, the result keeps its own, the choice is as consuming as is said, its controllers are the actors, and its observers have a
+-- value.
 unfoldable pub is_exercisable : Packages → ChoiceCall → PartyNames → Bool → Value → Bool
 is_exercisable packages call actors consuming result =
     call_has_kinds packages call
@@ -43,6 +48,6 @@ is_exercisable packages call actors consuming result =
     && (same_truth (is_consuming_call packages call) consuming
     && are_controllers (parties_of_choice packages call) actors)))
 
--- the language of the ledger
+-- The language of the ledger, by which all rules of the ledger judge: that of these packages, with the tests of size above.
 abbrev pub the_language : Packages → Language
 the_language packages = language_of packages (is_creatable packages) (is_exercisable packages)

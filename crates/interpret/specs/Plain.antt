@@ -1,11 +1,11 @@
--- Faults that hold no want of memory.
+-- Faults that are no want of memory.
 use Rattle.std.specs.Prelude.{◌≢◌}
 use Rattle.lang_eval.specs.declared.eval_fault.EvalFault.TheVariants.{Memory as NoMemory}
 use Rattle.interpret.specs.declared.command_fault.CommandFault.{CommandFault}
 use Rattle.interpret.specs.declared.command_fault.CommandFault.TheVariants.{UnknownTemplate, UnknownChoice, BadArgs, ContractUnknown, Eval}
 use Rattle.interpret.specs.declared.command_fault.CommandFault.TheVariants.{TooDeep, TooMany, Unauthorised, TooBig, Memory}
 
--- the fault of an evaluation is one of the language
+-- The fault is one of the commands or of the language, and not want of memory, which may also be that of an evaluation (`Eval`).
 abbrev pub IsPlain : CommandFault → Type 0
 IsPlain (Eval path e) = e ≢ NoMemory
 IsPlain Memory = ⊥

@@ -1,4 +1,5 @@
--- Where commands stop: recognised from whole trees that are as wanted, and the first test that fails there.
+-- Where commands stop: recognised from whole trees that are as wanted, and the first test that fails behind them. The arguments `left`, `by`,
+-- `seen`, `seed`, `path`, `index` and `progress` are those of `Wanted` in Wanted.antt.
 use Rattle.std.specs.Prelude.{◌≡◌, ℕ, zero, suc, ◌+◌, ◌<◌, Bool, true, false, not, nat_le, List, [], ◌∷◌, ◌++◌, Option, Some, None, Result, Ok, Err, ◌⊎◌}
 use Rattle.ledger_terms.specs.declared.value.Value.{Value}
 use Rattle.ledger_terms.specs.declared.value.Value.TheVariants.{Unit as UnitValue}
@@ -28,25 +29,30 @@ use Rattle.wire_form.specs.Encoded.{encoded_bytes}
 use Rattle.interpret.specs.Interpreted.{nothing_done}
 use Rattle.interpret.specs.Wanted.{IsTree, Wanted, one_less, progress_with}
 
--- a test that fails gives its fault, and one that passes leaves the others
+-- a test as the first fault: this fault where the test says so (true), and else what the tests behind it give
 abbrev pub fault_where : Bool → CommandFault → Option CommandFault → Option CommandFault
 fault_where true fault others = Some fault
 fault_where false fault others = others
 
+-- the fault of an evaluation at this path, as the first one; where it has a value, what the tests behind it give of that
 abbrev pub evaluation_fault : {A : Type 0} → List ℕ → Result A EvalFault → (A → Option CommandFault) → Option CommandFault
 evaluation_fault path (Err e) others = Some (Eval path e)
 evaluation_fault path (Ok a) others = others a
 
--- the first test of an Exercise that fails before its body
+-- The first test of an Exercise that fails before its body, None where all pass. The contract was looked up: it is there, the parties have
+-- values, and the actors are among the authorisers `by`.
 abbrev pub exercise_fault : Packages → List ℕ → PartyNames → Option Known → List ℕ → List Value → Option CommandFault
 exercise_fault packages path by None choice args = Some (ContractUnknown path)
 exercise_fault packages path by (Some k) choice args =
     evaluation_fault path (call_controllers packages (call_of k choice args)) (λ actors. fault_where (not (are_authorised actors by)) (Unauthorised path) None)
 
+-- The first test of a Fetch that fails, None where all pass: the contract, which was looked up, is there, and a stakeholder is among the
+-- authorisers.
 abbrev pub fetch_fault : Packages → List ℕ → PartyNames → Option Known → Option CommandFault
 fetch_fault packages path by None = Some (ContractUnknown path)
 fetch_fault packages path by (Some k) = fault_where (is_empty (fetchers packages k.instance by)) (Unauthorised path) None
 
+-- the first test that fails of an action that is asked for, where there is room for it; of an Exercise before its body; None where all pass
 abbrev pub demand_fault : Packages → List Known → Progress → List ℕ → PartyNames → Demand → Option CommandFault
 demand_fault packages known progress path by (CreateDemand t fields) =
     evaluation_fault path (created_signatories packages (record { template = t; fields = fields }))
@@ -55,25 +61,26 @@ demand_fault packages known progress path by (ExerciseDemand t id choice args) =
     (usable packages known progress id t) choice args
 demand_fault packages known progress path by (FetchDemand t id) = fetch_fault packages path by (usable packages known progress id t)
 
+-- whether a number is 0
 abbrev pub is_zero : ℕ → Bool
 is_zero zero = true
 is_zero (suc n) = false
 
 -- The first test that fails of an action that is asked for, of an Exercise before its body: the depth, the number of
--- actions, the contract, the evaluations, the authority.
+-- actions, the contract, the evaluations, the authority. None where all pass.
 abbrev pub first_fault : Packages → List Known → ℕ → Progress → List ℕ → PartyNames → Demand → Option CommandFault
 first_fault packages known left progress path by demand =
     fault_where (is_zero left) (TooDeep path) (fault_where (nat_le MOST_ACTIONS progress.count) (TooMany path)
     (demand_fault packages known progress path by demand))
 
--- What stands before the place of the stop. It is next; or the next action is a whole tree, with what follows; or it is an
--- Exercise that was begun by these actors, and the stop is inside.
+-- What stands before the place of a stop. The stop is next (`Here`); or the next action is a whole tree, and then comes what follows (`Past`);
+-- or it is an Exercise that was begun by these actors on this contract, and the stop is inside (`Inside`).
 pub data Before : Type 0 where
   Here : Before
   Past : ActionNode → Before → Before
   Inside : Known → (choice : List ℕ) (args : List Value) (actors : PartyNames) → Before → Before
 
--- an Exercise that is asked for passes all tests before its body
+-- an Exercise that is asked for, on contract k and by these actors, passes all tests before its body
 pub record IsBegun (packages : Packages) (known : List Known) (left : ℕ) (progress : Progress) (by : PartyNames) (demand : Demand) (k : Known)
     (choice : List ℕ) (args : List Value) (actors : PartyNames) : Type 0 where
   pub some : 0 < left
@@ -83,12 +90,12 @@ pub record IsBegun (packages : Packages) (known : List Known) (left : ℕ) (prog
   pub entered : call_controllers packages (call_of k choice args) ≡ Ok actors
   pub authorised : are_authorised actors by ≡ true
 
--- a consuming Exercise has consumed its contract when its body runs
+-- what a transaction did when the body of this Exercise begins: a consuming one has consumed its contract then
 abbrev pub progress_inside : Packages → Progress → Known → List ℕ → List Value → Progress
 progress_inside packages progress k choice args = with_consumed (is_consuming_call packages (call_of k choice args)) k.id (with_action progress)
 
--- What a source asks for stops there, with that fault: the source itself has it, or the action that it asks for fails that
--- test first.
+-- What a source asks for stops at the place that `Before` tells, with that fault: the source itself has it, or the action that it asks for
+-- there fails that test first.
 abbrev pub Stops : Packages → List Known → ℕ → Source → PartyNames → List ChildResult → Hash → List ℕ → ℕ → Progress → Before → CommandFault → Type 0
 Stops packages known left source by seen seed path index progress Here fault =
     (source.turn index seen ≡ Stop fault)
@@ -103,7 +110,7 @@ Stops packages known left source by seen seed path index progress (Inside k choi
     (authorisers packages k.instance actors) [] (child_seed seed index) (path ++ index ∷ []) 0
     (progress_inside packages progress k choice args) more fault
 
--- an Exercise that passes all tests before its body stops inside
+-- an Exercise that is asked for passes all tests before its body, and stops inside with this fault
 pub record IsInside (packages : Packages) (known : List Known) (left : ℕ) (progress : Progress) (path : List ℕ) (seed : Hash) (by : PartyNames)
     (demand : Demand) (fault : CommandFault) : Type 0 where
   pub k : Known
@@ -115,12 +122,12 @@ pub record IsInside (packages : Packages) (known : List Known) (left : ℕ) (pro
   pub stops : Stops packages known (one_less left) (body_source packages (call_of k choice args) path) (authorisers packages k.instance actors) []
       seed path 0 (progress_inside packages progress k choice args) more fault
 
--- an action that is refused fails a test itself, or stops inside
+-- an action that is asked for is refused with this fault: it fails a test itself, or stops inside
 abbrev pub IsRefused : Packages → List Known → ℕ → Progress → List ℕ → Hash → PartyNames → Demand → CommandFault → Type 0
 IsRefused packages known left progress path seed by demand fault =
     (first_fault packages known left progress path by demand ≡ Some fault) ⊎ IsInside packages known left progress path seed by demand fault
 
--- Commands stop with a fault: at a place, or after all of them, where the encoded actions exceed their limit.
+-- Commands stop with a fault: at a place, or after all of them, where the encoded actions exceed their limit. `seed` is the transaction's.
 abbrev pub StopsWith : Packages → List Known → Hash → PartyNames → List Command → CommandFault → Type 0
 StopsWith packages known seed act_as commands fault =
     ((before : Before) × Stops packages known MOST_ACTION_DEPTH (commands_source packages known commands) act_as [] seed [] 0 nothing_done before fault)

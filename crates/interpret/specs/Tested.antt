@@ -14,38 +14,40 @@ use Rattle.lang_eval.specs.Parts.{PartyNames, parties_of_created, parties_of_cho
 use Rattle.lang_eval.specs.Language.{parties_if_typed, signatories_in, observers_in}
 use Rattle.interpret.specs.Sizes.{is_small_instance, are_small_args}
 
+-- the signatories of parties that were evaluated, or the fault
 abbrev pub signatories_of : Result ContractParties EvalFault → Result PartyNames EvalFault
 signatories_of (Ok p) = Ok p.signatories
 signatories_of (Err e) = Err e
 
+-- the controllers of parties that were evaluated, or the fault
 abbrev pub controllers_of : Result ChoiceParties EvalFault → Result PartyNames EvalFault
 controllers_of (Ok p) = Ok p.controllers
 controllers_of (Err e) = Err e
 
--- The signatories of a contract that is created: the size of the instance, its `ensure`, signatories and observers are
--- tried in this order. Fields of other kinds than the template's, which no checked body asks for, give Assert.
+-- The signatories of a contract that is to be created, or the first fault: the size of the instance, its `ensure`, signatories and observers are tried
+-- in this order. Fields of other kinds than the template's, which no checked body asks for, give Assert.
 unfoldable pub created_signatories : Packages → Instance → Result PartyNames EvalFault
 created_signatories packages i =
     cond (has_kinds packages i) (cond (is_small_instance i) (signatories_of (parties_of_created packages i)) (Err TooLarge)) (Err AssertFault)
 
--- The controllers of a call: the size of the arguments, the controllers and the choice observers are tried in this order.
--- A choice that isn't there, or arguments of other kinds, which no checked body asks for, give Assert.
+-- The controllers of a call, or the first fault: the size of the arguments, the controllers and the choice observers are tried in this order. A choice
+-- that isn't there, or arguments of other kinds, which no checked body asks for, give Assert.
 unfoldable pub call_controllers : Packages → ChoiceCall → Result PartyNames EvalFault
 call_controllers packages call =
     cond (call_has_kinds packages call) (cond (are_small_args call.args) (controllers_of (parties_of_choice packages call)) (Err TooLarge)) (Err AssertFault)
 
--- the signatories of a contract that has roles
+-- the signatories of the instance; no party where its template isn't there, its fields have other kinds, or its parties have no values
 unfoldable pub signers : Packages → Instance → PartyNames
 signers packages i = signatories_in (parties_if_typed packages i)
 
--- its stakeholders among the authorisers
+-- the actors of a Fetch of the instance: the set of those of its stakeholders that are among the authorisers `by`; empty where none is
 unfoldable pub fetchers : Packages → Instance → PartyNames → PartyNames
 fetchers packages i by = set_of (within (signatories_in (parties_if_typed packages i) ++ observers_in (parties_if_typed packages i)) by)
 
--- there are actors, and all of them are among the authorisers
+-- whether an Exercise with these actors is authorised: there are actors, and all of them are among the authorisers `by`
 abbrev pub are_authorised : PartyNames → PartyNames → Bool
 are_authorised actors by = not (is_empty actors) && is_subset actors by
 
--- who authorises the consequences of an Exercise
+-- who authorises the consequences of an Exercise of the instance: its actors and the signatories of its contract
 abbrev pub authorisers : Packages → Instance → PartyNames → PartyNames
 authorisers packages i actors = set_of (actors ++ signers packages i)

@@ -1,4 +1,4 @@
--- Whether trees of actions are possible in the model, by tests in order.
+-- Whether trees of actions are possible in the model, by tests in order. What is true here is what Conformance.antt of ledger_model states.
 use Rattle.std.specs.Prelude.{Bool, true, false, ◌&&◌, List, [], ◌∷◌, ◌++◌, Result, Ok, Err}
 use Rattle.std.specs.Cmp.Lexicographic.{pointwise}
 use Rattle.ledger_terms.specs.declared.value.Value.{Value}
@@ -19,10 +19,11 @@ use Rattle.lang_eval.specs.Kinds.{has_kinds}
 use Rattle.lang_eval.specs.Next.{next}
 use Rattle.interpret.specs.Language.{is_creatable, is_exercisable}
 
+-- whether two lists have the same values
 abbrev pub same_values : List Value → List Value → Bool
 same_values = pointwise value_eq.ghosts.eq
 
--- the action is the one that a step asks for
+-- whether an action is the one that a step of a body asks for; a seed, a salt, actors and a result aren't compared
 abbrev pub is_demanded : Step → Action → Bool
 is_demanded (CreateNext template fields) (Create id i) = template_eq.ghosts.eq i.template template && same_values i.fields fields
 is_demanded (ExerciseNext template id choice args) (Exercise id' salt i choice' args' actors consuming result) =
@@ -30,44 +31,50 @@ is_demanded (ExerciseNext template id choice args) (Exercise id' salt i choice' 
 is_demanded (FetchNext template id) (Fetch id' salt i actors) = template_eq.ghosts.eq i.template template && same_name id' id
 is_demanded step action = false
 
+-- whether what a body does next is to ask for this action; not so for a fault
 abbrev pub asks : Result Step EvalFault → Action → Bool
 asks (Ok step) action = is_demanded step action
 asks (Err e) action = false
 
+-- whether a step of a body is its end with this result
 abbrev pub is_done : Step → Value → Bool
 is_done (Done v) result = value_eq.ghosts.eq v result
 is_done step result = false
 
+-- whether what a body does next is to end with this result; not so for a fault
 abbrev pub gives : Result Step EvalFault → Value → Bool
 gives (Ok step) result = is_done step result
 gives (Err e) result = false
 
--- an action is possible by itself
+-- whether an action is possible by itself, whatever stands below it
 abbrev pub is_possible : Packages → Action → Bool
 is_possible packages (Create id i) = has_kinds packages i && is_creatable packages i
 is_possible packages (Exercise id salt i choice args actors consuming result) =
     has_kinds packages i && is_exercisable packages (record { id = id; instance = i; choice = choice; args = args }) actors consuming result
 is_possible packages (Fetch id salt i actors) = has_kinds packages i
 
+-- whether an action may be the next child of a body, after what was learnt of those before (`seen`); without a body none may
 abbrev pub continues : Packages → Body → List ChildResult → Action → Bool
 continues packages NoBody seen action = false
 continues packages (BodyOf call result) seen action = asks (next packages call seen) action
 
+-- whether a body ends after these children with the result that it has to have; without a body there is nothing to end
 abbrev pub ends : Packages → Body → List ChildResult → Bool
 ends packages NoBody seen = true
 ends packages (BodyOf call result) seen = gives (next packages call seen) result
 
--- these trees are the rest of what a body does, and each is possible
+-- Whether these trees are the rest of what a body does after what it has seen, and each is possible with all below it.
 abbrev pub are_rest : Packages → Body → List ChildResult → Actions → Bool
 are_rest packages body seen NoRoots = ends packages body seen
 are_rest packages body seen (Root act consequences others) =
     (continues packages body seen act.action && (is_possible packages act.action && are_rest packages (body_of act.action) [] consequences))
     && are_rest packages body (seen ++ result_of_child act.action ∷ []) others
 
--- one tree
+-- whether an action is possible with these consequences
 abbrev pub is_tree_possible : Packages → Action → Actions → Bool
 is_tree_possible packages action consequences = is_possible packages action && are_rest packages (body_of action) [] consequences
 
+-- whether there are no trees
 abbrev pub has_none : Actions → Bool
 has_none NoRoots = true
 has_none (Root act consequences others) = false

@@ -10,30 +10,34 @@ use Rattle.lang_eval.specs.Kinds.{has_kinds}
 use Rattle.interpret.specs.Ids.{Hash}
 use Rattle.interpret.specs.declared.progress.Progress.{Progress}
 
+-- whether two hashes are the same
 abbrev pub same_hash : Hash → Hash → Bool
 same_hash = pointwise ◌==◌
 
+-- the first contract with this id, or None
 abbrev pub find_known : Hash → List Known → Option Known
 find_known id known = find (λ k. same_hash k.id id) known
 
+-- the first contract with this salt, by which labels are resolved; or None
 abbrev pub find_salt : Hash → List Known → Option Known
 find_salt salt known = find (λ k. same_hash k.salt salt) known
 
+-- whether the id is among those that were consumed
 abbrev pub is_consumed : Hash → List Hash → Bool
 is_consumed id consumed = list_any (λ d. same_hash d id) consumed
 
--- the first, and else the second
+-- the first of two, where it is there, and else the second
 abbrev pub first_found : Option Known → Option Known → Option Known
 first_found (Some k) other = Some k
 first_found None other = other
 
--- a contract of that template, whose fields have its kinds
+-- the contract, where it was found, is of this template and has fields of the template's kinds; else None
 abbrev pub of_template : Packages → TemplateName → Option Known → Option Known
 of_template packages template None = None
 of_template packages template (Some k) = cond (template_eq.ghosts.eq k.instance.template template && has_kinds packages k.instance) (Some k) None
 
--- The contract of that id and template, where it is known or the transaction created it, and where the transaction hasn't
--- consumed it.
+-- The contract of that id and template that the next action of a transaction may use: it is known or the transaction created it, and the transaction
+-- hasn't consumed it. None where there is no such contract.
 unfoldable pub usable : Packages → List Known → Progress → Hash → TemplateName → Option Known
 usable packages known progress id template =
     cond (is_consumed id progress.consumed) None

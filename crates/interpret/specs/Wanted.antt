@@ -28,8 +28,8 @@ use Rattle.interpret.specs.Commands.{commands_source}
 use Rattle.interpret.specs.Interpreted.{nothing_done}
 use Rattle.wire_form.specs.Encoded.{encoded_bytes}
 
--- The contract of an action: a Create has the id of its seed and instance, and what another uses is known, or was created
--- before, and wasn't consumed before.
+-- The contract of an action is one that it may use: a Create has the id of its seed and instance, and what another action uses is known or
+-- was created before, and wasn't consumed before. `progress` is what the transaction did before the action, `seed` the action's.
 abbrev pub IsInput : Packages → List Known → Progress → Hash → Action → Type 0
 IsInput packages known progress seed (Create id i) = id ≡ contract_id seed i
 IsInput packages known progress seed (Exercise id salt i choice args actors consuming result) =
@@ -37,55 +37,59 @@ IsInput packages known progress seed (Exercise id salt i choice args actors cons
 IsInput packages known progress seed (Fetch id salt i actors) =
     usable packages known progress id i.template ≡ Some (record { id = id; salt = salt; instance = i })
 
--- the actors of a Fetch are the set of stakeholders among the authorisers
+-- the actors of a Fetch are the set of stakeholders among the authorisers `by`; of other actions this says nothing
 abbrev pub IsFetchedBy : Packages → PartyNames → Action → Type 0
 IsFetchedBy packages by (Create id i) = Unit {0}
 IsFetchedBy packages by (Exercise id salt i choice args actors consuming result) = Unit {0}
 IsFetchedBy packages by (Fetch id salt i actors) = actors ≡ fetchers packages i by
 
--- what an action has to meet by itself
+-- what an action has to meet by itself, after this progress, authorised by `by`, with this seed; what stands below it isn't asked
 pub record IsSound (packages : Packages) (known : List Known) (progress : Progress) (by : PartyNames) (seed : Hash) (action : Action) : Type 0 where
   pub input : IsInput packages known progress seed action
   pub possible : Possible (the_language packages) action
   pub authorised : is_authorised (roles_of (the_language packages)) by action ≡ true
   pub fetched : IsFetchedBy packages by action
 
--- what a transaction did, with one more action
+-- what a transaction did so far, with one more action, which has this seed
 abbrev pub after_action : Progress → Hash → Action → Progress
 after_action p seed (Create id i) = with_created (record { id = id; salt = seed; instance = i }) (with_action p)
 after_action p seed (Exercise id salt i choice args actors consuming result) = with_consumed consuming id (with_action p)
 after_action p seed (Fetch id salt i actors) = with_action p
 
+-- what a transaction did, with one more action
 abbrev pub after : Progress → Act → Progress
 after p act = after_action p act.seed act.action
 
+-- what a transaction did, with more actions, in order
 abbrev pub after_all : Progress → List Act → Progress
 after_all p [] = p
 after_all p (act ∷ more) = after_all (after p act) more
 
+-- the number less one, and 0 of 0: the levels that are left below an action
 abbrev pub one_less : ℕ → ℕ
 one_less zero = zero
 one_less (suc n) = n
 
--- nothing is asked for
+-- a source that asks for nothing and ends with Unit, as below a Create or a Fetch
 abbrev pub no_source : Source
 no_source = record { turn = λ index seen. End UnitValue; learn = λ seen a. [] }
 
--- what asks for the consequences of the action at a path, and what they have to result in
+-- what asks for the consequences of the action at a path: the body of an Exercise's choice, and nothing for the others
 abbrev pub source_of : Packages → List ℕ → Action → Source
 source_of packages path (Create id i) = no_source
 source_of packages path (Exercise id salt i choice args actors consuming result) =
     body_source packages (record { id = id; instance = i; choice = choice; args = args }) path
 source_of packages path (Fetch id salt i actors) = no_source
 
+-- what the source of an action's consequences has to end with: the result of an Exercise, and Unit for the others
 abbrev pub result_of : Action → Value
 result_of (Create id i) = UnitValue
 result_of (Exercise id salt i choice args actors consuming result) = result
 result_of (Fetch id salt i actors) = UnitValue
 
--- These trees are the rest of what a source asks for, after this progress, with so many levels left: each action is the
--- one that is asked for, has the seed of its place, is sound, and has the consequences that its choice asks for; they end
--- with the result.
+-- These trees are the rest of what a source asks for, to the end with this result: each action is the one that is asked for, has the seed
+-- of its place, is sound, and has the consequences that its choice asks for. `left` levels may be used; `by` authorises; `seen` was learnt
+-- of the children before; seed and path are those of what is above; the first tree has this index, and `progress` was before it.
 abbrev pub Wanted : Packages → List Known → ℕ → Source → Value → PartyNames → List ChildResult → Hash → List ℕ → ℕ → Progress → Actions → Type 0
 Wanted packages known left source result by seen seed path index progress NoRoots = source.turn index seen ≡ End result
 Wanted packages known left source result by seen seed path index progress (Root act consequences others) =
@@ -100,12 +104,13 @@ Wanted packages known left source result by seen seed path index progress (Root 
     (after_all (after progress act) (preorder consequences)) others
 
 -- The transaction that commands ask for: its roots answer the commands in order, 16 levels deep at most, and its encoded
--- actions keep their limit.
+-- actions keep their limit. `seed` is the transaction's, and `act_as` are its requesters.
 pub record IsWanted (packages : Packages) (known : List Known) (seed : Hash) (act_as : PartyNames) (commands : List Command) (forest : Actions) : Type 0 where
   pub roots : Wanted packages known MOST_ACTION_DEPTH (commands_source packages known commands) UnitValue act_as [] seed [] 0 nothing_done forest
   pub small : encoded_bytes forest ≤ MOST_ACTION_BYTES
 
--- a whole tree is what is asked for, and as wanted
+-- The tree `node` is what `demand` asks for at this path, and all of it is as wanted: `seed` is that of its root, which `by` authorises, it may use
+-- `left` levels, and `progress` was before it. `Stops` asks this of each tree before the place of a stop.
 pub record IsTree (packages : Packages) (known : List Known) (left : ℕ) (progress : Progress) (path : List ℕ) (seed : Hash) (by : PartyNames)
     (demand : Demand) (node : ActionNode) : Type 0 where
   pub some : 0 < left
@@ -117,5 +122,6 @@ pub record IsTree (packages : Packages) (known : List Known) (left : ℕ) (progr
       (authorisers_below (roles_of (the_language packages)) node.root.action) [] node.root.seed path 0
       (after_action progress node.root.seed node.root.action) node.below
 
+-- what a transaction did, with all actions of one more tree
 abbrev pub progress_with : Progress → ActionNode → Progress
 progress_with p n = after_all (after p n.root) (preorder n.below)

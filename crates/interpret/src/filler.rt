@@ -294,7 +294,8 @@ impl<K: KnownContracts> Filler<'_, K> {
     }
 }
 
-/// A prepared tree with its seeds and ids. An input that is known has the id, salt and instance that it has in `known`,
+/// The transaction that a prepared tree asks for, or the first fault: `drafts` with the seeds of their places below `seed`, the transaction's,
+/// and with ids. An input that is known has the id, salt and instance that it has in `known`,
 /// whatever the tree itself creates or consumes, and one that is handed in without an id has that of its salt and
 /// instance. Each root first resolves its labels, then its actions in pre-order try depth, number and contract; the
 /// encoded bytes are tried last. Nothing is evaluated.

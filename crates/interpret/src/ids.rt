@@ -12,7 +12,7 @@ use wire_form::encode_instance;
 /// How many bytes are made room for at first: an instance of a few fields has no more.
 const USUAL_INSTANCE: usize = 64;
 
-/// The id of the contract that a Create with this salt makes.
+/// The id of the contract that a Create with this salt makes of an instance, which has to have a spelling.
 #[tactic(auto, unfolding(crate::specs::Ids::contract_id))]
 pub fn contract_id(alloc: Global, salt: &Hash, instance: &Instance) -> Result<Hash, AllocError>
     requires { IsSpellableInstance instance.now }
@@ -38,7 +38,7 @@ fn seed_of_command(participant: Name, command: Name) -> Hash
     hash_id::root_seed(participant, command)
 }
 
-/// The seed of the action that a label names.
+/// The seed of the action that a label names. Where that is a Create, it is the salt of its contract.
 pub fn label_seed(label: &Label) -> Hash
     ensures { result ≡ label_seed label.now }
 {
@@ -57,7 +57,7 @@ fn is_id_of(alloc: Global, id: &Hash, salt: &Hash, instance: &Instance) -> Resul
     Ok(*id == own)
 }
 
-/// Whether the contract of an action with that seed has the id of its salt and instance.
+/// Whether an action that has this seed is authentic: its contract has the id of its salt and instance.
 pub fn is_authentic(alloc: Global, seed: &Hash, action: &Action) -> Result<bool, AllocError>
     requires { IsSpellableInstance (instance_of action.now) }
     ensures { IfOk result (λ b. b ≡ is_authentic (record { seed = seed.now; action = action.now })) }

@@ -27,12 +27,12 @@ ghost use Rattle.lang_eval.specs.HandedIn.{parties_in_commands, parties_in_draft
 ghost use Rattle.interpret.specs.NamedParties.{parties_in_contracts, parties_in_forest};
 ghost use Rattle.interpret.specs.Language.{the_language};
 
-/// Who is involved in an action is said by the packages alone, whatever its size.
+/// The roles of an action are those that the packages give it, whatever the limits on sizes that the ledger's language has besides.
 pub fn roles_are_those_of_packages()
     ensures { (packages : Packages) (action : Action) → roles_of (the_language packages) action ≡ roles_in packages action }
 {}
 
-/// What commands are interpreted to is the transaction that they ask for, and there is no other.
+/// What commands are interpreted to (`interp`) is the transaction that they ask for (`IsWanted`), and there is no other.
 pub fn the_wanted_transaction_is_given()
     ensures given { (packages : Packages) (known : List Known) (seed : Hash) (act_as : PartyNames) (commands : List Command) (forest : Actions)
         → interp packages known seed act_as commands ≡ Ok forest
@@ -49,8 +49,8 @@ pub fn wanted_transactions_keep_the_rules()
         → KeepsRules packages act_as forest }
 {}
 
-/// Commands are refused with a fault exactly where they stop with it. So for each list of commands there is a wanted
-/// transaction or a stop, and never both.
+/// Commands are refused with a fault (by `interp`) exactly where they stop with it (`StopsWith`). So for each list of commands there is a
+/// wanted transaction or a stop, and never both.
 pub fn stops_are_given()
     ensures given { (packages : Packages) (known : List Known) (seed : Hash) (act_as : PartyNames) (commands : List Command) (fault : CommandFault)
         → interp packages known seed act_as commands ≡ Err fault
@@ -60,7 +60,7 @@ pub fn stops_are_given()
         → interp packages known seed act_as commands ≡ Err fault }
 {}
 
-/// What drafts are filled to is the transaction that they ask for, and there is no other.
+/// What drafts are filled to (`filling`) is the transaction that they ask for (`IsFilled`), and there is no other.
 pub fn the_filled_transaction_is_given()
     ensures given { (known : List Known) (seed : Hash) (drafts : Drafts) (forest : Actions)
         → filling known seed drafts ≡ Ok forest
@@ -70,7 +70,7 @@ pub fn the_filled_transaction_is_given()
         → filling known seed drafts ≡ Ok forest }
 {}
 
-/// Drafts are refused with a fault exactly where they stop with it.
+/// Drafts are refused with a fault (by `filling`) exactly where they stop with it (`FillStops`).
 pub fn filling_stops_are_given()
     ensures given { (known : List Known) (seed : Hash) (drafts : Drafts) (fault : CommandFault)
         → filling known seed drafts ≡ Err fault
@@ -80,7 +80,7 @@ pub fn filling_stops_are_given()
         → filling known seed drafts ≡ Err fault }
 {}
 
-/// Over authentic known contracts each action of a wanted transaction is authentic.
+/// Where all known contracts are authentic, so is each action of a wanted transaction.
 pub fn wanted_transactions_are_authentic()
     ensures { (packages : Packages) (known : List Known) (seed : Hash) (act_as : PartyNames) (commands : List Command) (forest : Actions)
         → list_all is_authentic_contract known ≡ true
@@ -88,14 +88,15 @@ pub fn wanted_transactions_are_authentic()
         → list_all is_authentic (preorder forest) ≡ true }
 {}
 
-/// The test of a tree that is re-executed decides whether it conforms.
+/// The test of a tree that `reexecute` makes is true exactly where the tree conforms.
 pub fn reexecution_decides_conformance()
     ensures { (packages : Packages) (seed : Hash) (action : Action) (consequences : Actions)
         → Decides (is_tree_possible packages action consequences)
         (Conforms (the_language packages) (Root (record { seed = seed; action = action }) consequences NoRoots)) }
 {}
 
-/// Each action of a wanted transaction names only parties that packages, commands and known contracts name.
+/// Each action of a wanted transaction names only parties that packages, commands and known contracts name. `is_party` is any test of
+/// parties that these pass.
 pub fn wanted_transactions_name_no_other_parties()
     ensures { (is_party : List ℕ → Bool) (packages : Packages) (known : List Known) (seed : Hash) (act_as : PartyNames)
         (commands : List Command) (forest : Actions)
@@ -106,7 +107,8 @@ pub fn wanted_transactions_name_no_other_parties()
         → AreKnown is_party (parties_in_forest forest) }
 {}
 
-/// Each action of a filled transaction names only parties that drafts and known contracts name.
+/// Each action of a filled transaction names only parties that drafts and known contracts name. `is_party` is any test of parties that
+/// these pass.
 pub fn filled_transactions_name_no_other_parties()
     ensures { (is_party : List ℕ → Bool) (known : List Known) (seed : Hash) (drafts : Drafts) (forest : Actions)
         → AreKnown is_party (parties_in_contracts known)

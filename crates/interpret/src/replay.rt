@@ -300,7 +300,8 @@ impl<S: Stepping> Replay<'_, S> {
 
 /// Whether a tree of actions is possible in the model (Ledger Model: conformance): its root is possible by itself, and the
 /// consequences of each Exercise are what its choice does, each possible itself, to the result that it has. Seeds, ids
-/// and authority play no part, and neither does what a Fetch has as actors. A choice that `natives` has is asked of them.
+/// and authority play no part, and neither does what a Fetch has as actors. A choice that `natives` has is asked of them. The error is want
+/// of memory alone.
 pub fn reexecute(
     alloc: Global,
     checked: &Checked,

@@ -12,20 +12,20 @@ use Rattle.json_walk.specs.declared.limits.TheConstants.{TEXT_BYTES}
 use Rattle.json_walk.specs.declared.walk_fault.WalkFault.{WalkFault}
 use Rattle.json_walk.specs.declared.walk_fault.WalkFault.TheVariants.{Shape}
 
--- a text that is a value, which has so few bytes
+-- the text `s`, as bytes, at the place `at`; the fault Limit where it has more bytes than a text may have
 unfoldable pub text_of : Place → List ℕ → Result (List ℕ) WalkFault
 text_of at s = do
   _ ← within_limit at TEXT_BYTES (length s)
   Ok s
 
--- what stands before and after the first such byte, where there is one
+-- what stands before and behind the first byte `mark` of a text; None where the text has no such byte
 unfoldable pub parts_round : ℕ → List ℕ → Option (List ℕ × List ℕ)
 parts_round mark s =
     if nat_lt (position_or_len (λ b. b == mark) s) (length s)
     then Some (before_first (λ b. b == mark) s, after_first (λ b. b == mark) s)
     else None
 
--- two names with a dot between them
+-- the name of a template that a value at a place spells: two names with a dot (byte 46) between them; else Shape
 unfoldable pub template_of : Place → Data → Result TemplateName WalkFault
 template_of at d = do
   s ← ok_or (as_str d) (Shape at)
@@ -33,6 +33,7 @@ template_of at d = do
   _ ← check (is_name parts.0 && is_name parts.1) (Shape at)
   Ok (record { «package» = parts.0; name = parts.1 })
 
+-- the name of a template in the member `template` of the object `d` at the place `at`; Shape where that member is absent or no such name
 unfoldable pub template_in : Place → Data → Result TemplateName WalkFault
 template_in at d = do
   m ← member_of at (codes "template") d

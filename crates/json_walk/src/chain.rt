@@ -15,7 +15,7 @@ pub enum Chain<'a> {
 }
 
 impl Chain<'_> {
-    /// The steps as a JSON pointer.
+    /// The JSON pointer (RFC 6901) that the steps spell, from the whole value down; it is empty at the root.
     pub fn pointer(&self) -> Result<Pointer, AllocError>
         ensures { IfOk result (λ p. p ≡ pointer_text self.now) }
     {

@@ -7,7 +7,7 @@ use crate::walk_fault::WalkFault;
 use serde_json::Value;
 use std::alloc::Global;
 
-/// The value that the bytes are JSON of (RFC 8259, as `serde_json` reads it).
+/// The value that the bytes are JSON of (RFC 8259, as `serde_json` reads it); NotJson where they are no JSON in UTF-8.
 pub fn read_json(alloc: Global, bytes: &[u8]) -> Result<Value, WalkFault>
     ensures { MatchResult result (λ v. json_of bytes.now ≡ Ok (view v)) (λ e. e ≢ WalkFault.Memory → json_of bytes.now ≡ Err e) }
 {

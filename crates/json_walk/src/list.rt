@@ -1,4 +1,4 @@
-//! Lists, read item by item.
+//! Lists, read item by item. `at` is the place of the list or value that is read; a fault Shape is there where a value has another form.
 ghost use Rattle.std.specs.Prelude.{◌≡◌, ◌≢◌, ◌≤◌, ◌+◌, ℕ, List, [], length, Result, Ok, Err, MatchResult, IfOk, OnOk};
 ghost use Rattle.std.specs.Borrow.{Bor};
 ghost use Rattle.serde_json.specs.Data.{Data};
@@ -17,7 +17,7 @@ use ledger_terms::ListOf;
 use serde_json::Value;
 use std::alloc::Global;
 
-/// The items of a list.
+/// The items of the list that the value at the place `at` is; the fault Shape where it is no list.
 #[tactic(auto, unfolding(crate::specs::Walk::items_of))]
 pub fn read_items<'v>(value: &'v Value, at: &Place) -> Result<&'v [Value], WalkFault>
     ensures { MatchResult result (λ v. items_of at.now (view value.now) ≡ Ok (items_view v.now))
@@ -29,7 +29,8 @@ pub fn read_items<'v>(value: &'v Value, at: &Place) -> Result<&'v [Value], WalkF
     }
 }
 
-/// The items of a list whose length keeps a limit.
+/// The items of the list that the value at the place `at` is. It is Shape where the value is no list, and Limit where its length is outside the
+/// limit.
 #[tactic(auto, using(crate::proofs::Items::item_count_view), unfolding(crate::specs::Walk::few_items_of))]
 pub fn read_few_items<'v>(
     value: &'v Value,
@@ -45,7 +46,7 @@ pub fn read_few_items<'v>(
     Ok(items)
 }
 
-/// The two items of a list that has just two; `at` is the place of the list.
+/// The two items of a list that has just two, and the fault Shape where it has more or fewer; `at` is the place of the list.
 pub fn read_two<'v>(items: &'v [Value], at: &Place) -> Result<(&'v Value, &'v Value), WalkFault>
     ensures { MatchResult result (λ p. two_of at.now (items_view items.now) ≡ Ok (view p.0.now, view p.1.now))
         (λ e. e ≢ WalkFault.Memory → two_of at.now (items_view items.now) ≡ Err e) }
@@ -73,7 +74,8 @@ fn push_item<T: Drop, F: Fn(&Value, &Place) -> Result<T, WalkFault>>(
     Ok(())
 }
 
-/// The items, each as `read_item` reads it at its place in the list at `at`.
+/// What the items of the list at the place `at` say, in order: `read_item` reads each of them, given the item and its place. The first fault of an
+/// item is the result.
 pub fn read_each<T: Drop, F: Fn(&Value, &Place) -> Result<T, WalkFault>>(
     alloc: Global,
     items: &[Value],
@@ -92,7 +94,8 @@ pub fn read_each<T: Drop, F: Fn(&Value, &Place) -> Result<T, WalkFault>>(
     Ok(list)
 }
 
-/// The items of a list, each as `read_item` reads it at its place.
+/// What the items of the list at the place `at` say, in order, each as `read_item` reads it, given the item and its place. It is Shape where the
+/// value is no list, else the first fault of an item.
 #[tactic(auto, unfolding(crate::specs::Lists::list_of))]
 pub fn read_list<T: Drop, F: Fn(&Value, &Place) -> Result<T, WalkFault>>(
     alloc: Global,
@@ -108,7 +111,8 @@ pub fn read_list<T: Drop, F: Fn(&Value, &Place) -> Result<T, WalkFault>>(
     read_each(alloc, items, at, read_item)
 }
 
-/// The items of a list whose length keeps a limit, each as `read_item` reads it at its place.
+/// What the items of the list at the place `at` say, in order, each as `read_item` reads it, given the item and its place. It is Shape where the
+/// value is no list, Limit where its length is outside the limit, else the first fault of an item.
 #[tactic(auto, unfolding(crate::specs::Lists::few_of))]
 pub fn read_few<T: Drop, F: Fn(&Value, &Place) -> Result<T, WalkFault>>(
     alloc: Global,
@@ -167,8 +171,9 @@ fn read_each_counted<T: Drop, F: Fn(&Value, &Place, u64) -> Result<(T, u64), Wal
     Ok((list, count))
 }
 
-/// The items of a list whose length keeps a limit, and the count after them. `read_item` takes what was counted in the items
-/// before, 0 at the first and never above `bound`, and gives the count after its item.
+/// What the items of the list at the place `at` say, with the count after the last of them, 0 for an empty list. `read_item` takes what was counted
+/// in the items before, 0 at the first and never above `bound`, and gives the count after its item. Faults are as for lists that are not counted:
+/// Shape where it is no list, Limit where its length is outside the limit, else the first fault of an item.
 #[tactic(auto, unfolding(crate::specs::Lists::counted_of))]
 pub fn read_counted<T: Drop, F: Fn(&Value, &Place, u64) -> Result<(T, u64), WalkFault>>(
     alloc: Global,

@@ -1,4 +1,4 @@
-//! The members of an object.
+//! The members of an object. `at` is the object's place, and `name` that of the member.
 ghost use Rattle.std.specs.Prelude.{◌≡◌, ◌≢◌, MatchResult, map, is_some, Ok, Err};
 ghost use Rattle.std.specs.List.{list_all};
 ghost use Rattle.serde_json.specs.Find.{get};
@@ -50,7 +50,7 @@ fn is_listed(key: &str, names: &[&str]) -> bool
     names.iter().any(|name| *name == key)
 }
 
-/// A member that the object must have.
+/// The value of the member `name`, which the object has to have; the fault Shape at the object where it is absent.
 #[tactic(auto, unfolding(crate::specs::Walk::member_of))]
 pub fn member<'v>(value: &'v Value, at: &Place, name: &str) -> Result<&'v Value, WalkFault>
     ensures { MatchResult result (λ v. member_of at.now name.now (view value.now) ≡ Ok (view v.now))
@@ -62,7 +62,7 @@ pub fn member<'v>(value: &'v Value, at: &Place, name: &str) -> Result<&'v Value,
     }
 }
 
-/// The name in a member.
+/// The name that stands in the member `name`: Shape at the object where the member is absent, and at the member where its value is no name.
 #[tactic(auto, unfolding(crate::specs::Walk::name_in))]
 pub fn name_in(value: &Value, at: &Place, name: &str) -> Result<Name, WalkFault>
     ensures { Follows WalkFault.Memory result (name_in at.now name.now (view value.now)) }
@@ -71,7 +71,7 @@ pub fn name_in(value: &Value, at: &Place, name: &str) -> Result<Name, WalkFault>
     read_name(found, &at.member(name))
 }
 
-/// The truth value in a member.
+/// The truth value in the member `name`: Shape at the object where the member is absent, and at the member where its value is none.
 #[tactic(auto, unfolding(crate::specs::Walk::truth_in))]
 pub fn truth_in(value: &Value, at: &Place, name: &str) -> Result<bool, WalkFault>
     ensures { Follows WalkFault.Memory result (truth_in at.now name.now (view value.now)) }
@@ -80,7 +80,7 @@ pub fn truth_in(value: &Value, at: &Place, name: &str) -> Result<bool, WalkFault
     read_truth(found, &at.member(name))
 }
 
-/// The truth value in a member, false where it is absent.
+/// The truth value in the member `name`, false where the member is absent; Shape at the member where its value is no truth value.
 #[tactic(auto, unfolding(crate::specs::Walk::truth_or))]
 pub fn truth_or(value: &Value, at: &Place, name: &str) -> Result<bool, WalkFault>
     ensures { Follows WalkFault.Memory result (truth_or at.now name.now (view value.now)) }

@@ -34,7 +34,7 @@ impl<'a> Place<'a> {
         }
     }
 
-    /// The place of a member of the object at this place.
+    /// The place of the member `name` of the object at this place.
     pub fn member<'b>(&'b self, name: &'b str) -> Place<'b>
         ensures { result ≡ at_member self.now name.now }
     {
@@ -43,7 +43,7 @@ impl<'a> Place<'a> {
         }
     }
 
-    /// The place of an item of the list at this place.
+    /// The place of the item at `index`, counted from 0, of the list at this place.
     pub fn item(&self, index: usize) -> Place<'_>
         ensures { result ≡ at_item self.now index }
     {
@@ -52,7 +52,7 @@ impl<'a> Place<'a> {
         }
     }
 
-    /// The place as a JSON pointer, for a fault.
+    /// The place as a JSON pointer, which a fault carries.
     pub fn pointer(&self) -> Result<Pointer, AllocError>
         ensures { IfOk result (λ p. p ≡ self.now) }
     {

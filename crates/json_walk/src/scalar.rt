@@ -10,7 +10,7 @@ use crate::walk_fault::WalkFault;
 use ledger_terms::Name;
 use serde_json::Value;
 
-/// A fault of form at this place.
+/// Err with the fault Shape at this place, as a result of any type: readers return it where a value has another form than they want.
 pub fn shape<T>(at: &Place) -> Result<T, WalkFault>
     ensures { MatchResult result (λ _. ⊥) (λ e. e ≢ WalkFault.Memory → e ≡ WalkFault.Shape at.now) }
 {
@@ -19,7 +19,8 @@ pub fn shape<T>(at: &Place) -> Result<T, WalkFault>
     })
 }
 
-/// The test that a count, a length or a depth keeps its limit, where `at` is the place of what is counted.
+/// Ok where a count, a length or a depth is within the limit, and else the fault Limit with `found`, that number; `at` is the place of what is
+/// counted.
 #[tactic(auto, unfolding(crate::specs::Walk::within_limit))]
 pub fn check_limit(at: &Place, limit: Limit, found: u64) -> Result<(), WalkFault>
     ensures exact { Follows WalkFault.Memory result (within_limit at.now limit found) }
@@ -36,7 +37,8 @@ pub fn check_limit(at: &Place, limit: Limit, found: u64) -> Result<(), WalkFault
     Ok(())
 }
 
-/// The name that a value spells.
+/// The name that the value at the place `at` spells: 1 to 32 bytes, a letter first, then letters, digits, `_` or `-`. Shape where it is no text, or
+/// another one.
 #[tactic(auto, unfolding(crate::specs::Walk::name_of))]
 pub fn read_name(value: &Value, at: &Place) -> Result<Name, WalkFault>
     ensures { Follows WalkFault.Memory result (name_of at.now (view value.now)) }
@@ -50,7 +52,8 @@ pub fn read_name(value: &Value, at: &Place) -> Result<Name, WalkFault>
     Ok(name)
 }
 
-/// The whole number that a value spells, which is to keep its limit.
+/// The whole number that the value at the place `at` spells. It is Shape where the value is no number, NotInteger where that is not whole or has no
+/// room in 64 bits with a sign, and Limit where it is outside the limit, as a negative one always is.
 #[tactic(auto, unfolding(crate::specs::Walk::integer_of))]
 pub fn read_integer(value: &Value, at: &Place, limit: Limit) -> Result<u64, WalkFault>
     ensures { Follows WalkFault.Memory result (integer_of at.now limit (view value.now)) }
@@ -74,7 +77,7 @@ pub fn read_integer(value: &Value, at: &Place, limit: Limit) -> Result<u64, Walk
     Ok(found)
 }
 
-/// The truth value that a value is.
+/// The truth value that the value at the place `at` is; Shape where it is neither true nor false.
 #[tactic(auto, unfolding(crate::specs::Walk::truth_of))]
 pub fn read_truth(value: &Value, at: &Place) -> Result<bool, WalkFault>
     ensures { Follows WalkFault.Memory result (truth_of at.now (view value.now)) }

@@ -13,7 +13,7 @@ use ledger_terms::{Name, TemplateName, Text};
 use serde_json::Value;
 use std::alloc::Global;
 
-/// The text of a value, which is to keep its limit.
+/// The text `text` as one of its own, made with `alloc`; the fault Limit at the place `at` where it has more bytes than a text may have.
 #[tactic(auto, unfolding(crate::specs::Texts::text_of))]
 pub fn read_text(alloc: Global, text: &str, at: &Place) -> Result<Text, WalkFault>
     ensures { Follows WalkFault.Memory result (text_of at.now text.now) }
@@ -22,7 +22,7 @@ pub fn read_text(alloc: Global, text: &str, at: &Place) -> Result<Text, WalkFaul
     Ok(Text::of(alloc, text)?)
 }
 
-/// What stands before and after the first mark, an ASCII character, where there is one.
+/// What stands before and behind the first `mark`, an ASCII character, in a text; None where the text has no such character.
 pub fn parts_round(text: &str, mark: char) -> Option<(&str, &str)>
     requires { mark < 128 }
     ensures { option_map (λ p. (p.0.now, p.1.now)) result ≡ parts_round mark text.now }
@@ -30,7 +30,8 @@ pub fn parts_round(text: &str, mark: char) -> Option<(&str, &str)>
     text.split_once(mark)
 }
 
-/// The name of a template, written `Package.Template`.
+/// The name of a template that the value at the place `at` spells as `Package.Template`; Shape where it is no text, has no dot, or one of its two
+/// parts is no name.
 #[tactic(auto, unfolding(crate::specs::Texts::template_of))]
 pub fn read_template_name(value: &Value, at: &Place) -> Result<TemplateName, WalkFault>
     ensures { Follows WalkFault.Memory result (template_of at.now (view value.now)) }
@@ -47,7 +48,8 @@ pub fn read_template_name(value: &Value, at: &Place) -> Result<TemplateName, Wal
     Ok(TemplateName { package, name })
 }
 
-/// The name in the member `template`.
+/// The name of a template in the member `template` of the object at the place `at`: Shape at the object where that member is absent, and at the
+/// member where its value is no such name.
 #[tactic(auto, unfolding(crate::specs::Texts::template_in))]
 pub fn template_in(value: &Value, at: &Place) -> Result<TemplateName, WalkFault>
     ensures { Follows WalkFault.Memory result (template_in at.now (view value.now)) }

@@ -5,8 +5,10 @@ ghost use Rattle.json_walk.specs.declared.walk_fault.WalkFault.TheVariants.{Memo
 use ledger_terms::{Pointer, Text};
 use std::alloc::{AllocError, AllocFailed};
 
-/// The first fault of a walk, or want of memory. A path is the place of the fault, as a JSON pointer from the whole value.
-/// `which` is the number of the limit that is broken and `found` the count or number that breaks it, 0 for a negative one.
+/// The first fault of a walk through a JSON value, or want of memory. `path` is the place of the fault, as a JSON pointer from the whole value.
+/// NotJson: the bytes are no JSON. Shape: a value has another form than it should, or a member is absent. NotInteger: a number isn't whole.
+/// Unknown: `name` names nothing that is known. Limit: `which` is the number of the limit that is broken and `found` the count or number that
+/// breaks it, 0 for a negative one. Repeated: something stands for the second time.
 #[derive(Drop)]
 pub enum WalkFault {
     NotJson,

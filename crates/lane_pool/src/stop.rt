@@ -30,18 +30,21 @@ pub(crate) struct Stop<C: Cause> {
 }
 
 impl<C: Cause> Stop<C> {
+    /// A flag that isn't set.
     pub(crate) fn new() -> Stop<C> {
         Stop {
             word: AtomicIn::new(0),
         }
     }
 
+    /// Sets the flag, for all threads.
     pub(crate) fn set(&self)
         requires { C.holds }
     {
         self.word.store(1, SeqCst);
     }
 
+    /// Whether some thread has set the flag.
     pub(crate) fn is_set(&self) -> bool
         ensures { result ≡ true → C.holds }
     {

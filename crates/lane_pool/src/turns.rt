@@ -42,7 +42,7 @@ impl<T> Turns<T> {
         }
     }
 
-    /// Those of so many lanes from the first, and those of the others.
+    /// The turns of the first `low` lanes, and the turns of the others.
     pub(crate) fn split(self, low: u32) -> (Turns<T>, Turns<T>)
         requires { self.from + low ≤ self.end }
         ensures low { result.0 ≡ record self { end = self.from + low } }
@@ -73,7 +73,7 @@ impl<T> Turns<T> {
         (low, high)
     }
 
-    /// Before which number each lane's turns end.
+    /// The number before which each lane's turns end.
     pub(crate) fn turns(&self) -> u64
         ensures { result ≡ self.now.turns }
     {

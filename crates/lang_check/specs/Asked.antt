@@ -1,4 +1,4 @@
--- What a body of a checked package asks for, and what answers it.
+-- What a body of a checked package asks for, and what answers it; by these the laws of this crate say that well-typed code goes well.
 use Rattle.std.specs.Prelude.{◌≡◌, true, List, [], ◌∷◌, ◌++◌, Some, Ok}
 use Rattle.ledger_terms.specs.declared.kind.Kind.{Kind}
 use Rattle.ledger_terms.specs.declared.kind.Kind.TheVariants.{Bool as BoolKind, Parties as PartiesKind}
@@ -18,7 +18,8 @@ use Rattle.lang_eval.specs.Value.{val}
 use Rattle.lang_eval.specs.Next.{next}
 use Rattle.lang_eval.specs.Parts.{this_names, call_names}
 
--- A step of a choice that returns this kind: what it names is there, and its fields, arguments and result have their kinds.
+-- A step of a choice that returns the kind `returns`: the template or choice that it names is there, and its fields, arguments or result
+-- have their kinds.
 abbrev pub IsAsked : Packages → Kind → Step → Type 0
 IsAsked packages returns (CreateNext t fields) = has_kinds packages (record { template = t; fields = fields }) ≡ true
 IsAsked packages returns (ExerciseNext t id choice args) =
@@ -26,7 +27,8 @@ IsAsked packages returns (ExerciseNext t id choice args) =
 IsAsked packages returns (FetchNext t id) = (template : TemplateForm) × (template_in t packages ≡ Some template)
 IsAsked packages returns (Done v) = kind_of v ≡ returns
 
--- What a child gave answers the step that asked for it: an id, a result of the choice's kind, or a contract of the template.
+-- What a child gave answers the step that asked for it: an id for a Create, a result of the choice's kind for an Exercise, a contract of
+-- the template with fields of its kinds for a Fetch.
 abbrev pub IsAnswer : Packages → Step → ChildResult → Type 0
 IsAnswer packages (CreateNext t fields) (Created id) = Unit {0}
 IsAnswer packages (ExerciseNext t id choice args) (Returned v) =
@@ -34,23 +36,24 @@ IsAnswer packages (ExerciseNext t id choice args) (Returned v) =
 IsAnswer packages (FetchNext t id) (Fetched i) = (i.template ≡ t) × (has_kinds packages i ≡ true)
 IsAnswer packages step seen = ⊥
 
--- After what was seen before, each of these answers the step before it.
+-- The last list has results of children that come after those of `before`, and each of them answers the step that the call's body takes
+-- after all those in front of it.
 abbrev pub AreAnswers : Packages → ChoiceCall → List ChildResult → List ChildResult → Type 0
 AreAnswers packages call before [] = Unit {0}
 AreAnswers packages call before (s ∷ seen) =
     ((step : Step) × (next packages call before ≡ Ok step) × IsAnswer packages step s) × AreAnswers packages call (before ++ s ∷ []) seen
 
--- the evaluation of an expression, where it has a value, gives one of this kind
+-- where the expression has a value under these names, it is of this kind
 abbrev pub Gives : ExprForm → Names → Kind → Type 0
 Gives e names k = (v : Value) → val e names ≡ Ok v → kind_of v ≡ k
 
--- the parties of a contract, and whether it may be, are evaluated as such
+-- the `ensure` of an instance of template t, where it has a value, gives a truth value, and its signatories and observers give sets of parties
 pub record IsEvaluable (t : TemplateForm) (i : Instance) : Type 0 where
   pub ensure : Gives t.ensure (this_names t i) BoolKind
   pub signatories : Gives t.signatories (this_names t i) PartiesKind
   pub observers : Gives t.observers (this_names t i) PartiesKind
 
--- and so are the controllers and the observers of a call
+-- the controllers and observers of a call of choice c of template t, where they have a value, give sets of parties
 pub record IsCallEvaluable (t : TemplateForm) (c : ChoiceForm) (call : ChoiceCall) : Type 0 where
   pub controllers : Gives c.controllers (call_names t c call) PartiesKind
   pub observers : Gives c.observers (call_names t c call) PartiesKind

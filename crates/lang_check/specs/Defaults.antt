@@ -1,5 +1,5 @@
--- What the definitions of evaluation give for a wrong kind, a name that isn't bound or a template that isn't there, and the
--- evaluations that take none of it.
+-- The definitions of evaluation give a default for a wrong kind, a name that isn't bound and a template that isn't there. Here stands
+-- which evaluations take no default, and which faults are left for them.
 use Rattle.std.specs.Prelude.{◌≡◌, ◌⊎◌, true, false, List, [], Some, Ok}
 use Rattle.ledger_terms.specs.declared.kind.Kind.{Kind}
 use Rattle.ledger_terms.specs.declared.kind.Kind.TheVariants.{Int as IntKind, Bool as BoolKind, Text as TextKind}
@@ -24,34 +24,35 @@ use Rattle.lang_eval.specs.Value.{val}
 use Rattle.lang_eval.specs.Parts.{this_names}
 use Rattle.lang_check.specs.Asked.{Gives}
 
--- the faults of expressions: a number or a text beyond its limit
+-- the fault is one that an expression may have: a number or a text beyond its limit
 abbrev pub IsOverLimit : EvalFault → Type 0
 IsOverLimit Overflow = Unit {0}
 IsOverLimit TooLarge = Unit {0}
 IsOverLimit f = ⊥
 
--- the faults of bodies: those, and an assertion
+-- the fault is one that a body may have: a number or a text beyond its limit, or an assertion
 abbrev pub IsOfBodies : EvalFault → Type 0
 IsOfBodies AssertFault = Unit {0}
 IsOfBodies f = IsOverLimit f
 
--- The faults of contracts: a limit, an `ensure` that is evaluated to false, and signatories that are evaluated to none.
+-- The fault is one that the evaluation of an instance of template t has with cause: a limit, an `ensure` that is evaluated to false, or
+-- signatories that are evaluated to none.
 abbrev pub IsOfContracts : TemplateForm → Instance → EvalFault → Type 0
 IsOfContracts t i Ensure = val t.ensure (this_names t i) ≡ Ok (BoolValue false)
 IsOfContracts t i NoSignatory = val t.signatories (this_names t i) ≡ Ok (Parties [])
 IsOfContracts t i f = IsOverLimit f
 
--- two expressions give values of one kind
+-- where two expressions have values under these names, these are of one kind
 abbrev pub GiveAlike : ExprForm → ExprForm → Names → Type 0
 GiveAlike a b names = (x y : Value) → val a names ≡ Ok x → val b names ≡ Ok y → kind_of x ≡ kind_of y
 
--- each of the expressions gives a value of this kind
+-- each of the expressions, where it has a value, gives one of this kind
 abbrev pub AllGive : ExprForms → Names → Kind → Type 0
 AllGive NoExprs names k = Unit {0}
 AllGive (MoreExprs e es) names k = Gives e names k × AllGive es names k
 
 abbrev mutual
-  -- each name in the expression is bound, and each operand gives a value of a kind that its operator takes
+  -- each name in the expression is bound, and each operand that has a value gives one of a kind that its operator takes
   pub TakesNoDefault : ExprForm → Names → Type 0
   TakesNoDefault (Literal v) names = Unit {0}
   TakesNoDefault (Var x) names = (b : Binding) × (binding_of x names ≡ Some b)
@@ -70,12 +71,14 @@ abbrev mutual
   TakesNoDefault (Union a b) names = (TakesNoDefault a names × Gives a names PartiesKind) × (TakesNoDefault b names × Gives b names PartiesKind)
   TakesNoDefault (Has a b) names = (TakesNoDefault a names × Gives a names PartiesKind) × (TakesNoDefault b names × Gives b names PartyKind)
 
+  -- each of the expressions takes no default
   pub TakeNoDefault : ExprForms → Names → Type 0
   TakeNoDefault NoExprs names = Unit {0}
   TakeNoDefault (MoreExprs e es) names = TakesNoDefault e names × TakeNoDefault es names
 
 abbrev mutual
-  -- so do a statement's expressions, where its test is a truth value, its contract an id, and its template or choice there
+  -- The statement's expressions take no default, its test gives a truth value, its contract an id, and its template or choice is there. Of a
+  -- `when` it is so of the side that is taken. The statement begins with these names and these results of children.
   pub RunsWithoutDefault : StmtForm → Packages → Names → List ChildResult → Type 0
   RunsWithoutDefault (Bind x e) packages names seen = TakesNoDefault e names
   RunsWithoutDefault (Assert e) packages names seen = TakesNoDefault e names × Gives e names BoolKind
@@ -90,14 +93,14 @@ abbrev mutual
       × (val e names ≡ Ok (BoolValue true) → RunWithoutDefault first packages names seen)
       × (val e names ≡ Ok (BoolValue false) → RunWithoutDefault second packages names seen)
 
-  -- and so do those of the statements that are reached
+  -- each of the statements that is reached runs without a default, where they begin with these names and these results of children
   pub RunWithoutDefault : StmtForms → Packages → Names → List ChildResult → Type 0
   RunWithoutDefault NoStmts packages names seen = Unit {0}
   RunWithoutDefault (MoreStmts s ss) packages names seen =
       RunsWithoutDefault s packages names seen
       × ((after : Names) (left : List ChildResult) → ran s packages names seen ≡ Went after left → RunWithoutDefault ss packages after left)
 
--- a body and, where it is reached, its result
+-- the body of choice c of template t takes no default in this call after these results of children, nor does its result where it is reached
 abbrev pub BodyTakesNoDefault : TemplateForm → ChoiceForm → Packages → ChoiceCall → List ChildResult → Type 0
 BodyTakesNoDefault t c packages call seen =
     RunWithoutDefault c.body packages (names_of t c call) seen
@@ -112,7 +115,7 @@ abbrev mutual
       ⊎ ((val e names ≡ Ok (BoolValue false)) × AreRefuted second packages names seen)
   IsRefuted s packages names seen = ⊥
 
-  -- one of the statements
+  -- an assertion of one of the statements is reached, and is evaluated to false
   pub AreRefuted : StmtForms → Packages → Names → List ChildResult → Type 0
   AreRefuted NoStmts packages names seen = ⊥
   AreRefuted (MoreStmts s ss) packages names seen =

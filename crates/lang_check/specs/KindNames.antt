@@ -4,6 +4,7 @@ use Rattle.lang_check.specs.declared.check_kind.CheckKind.{CheckKind}
 use Rattle.lang_check.specs.declared.check_kind.CheckKind.TheVariants.{DuplicateName, UnknownName, UnknownTemplate, UnknownChoice}
 use Rattle.lang_check.specs.declared.check_kind.CheckKind.TheVariants.{WrongKind, WrongCount, Reserved, Memory}
 
+-- the word of a fault's kind, as a refusal spells it
 abbrev pub kind_name : CheckKind → List ℕ
 kind_name DuplicateName = codes "DuplicateName"
 kind_name UnknownName = codes "UnknownName"

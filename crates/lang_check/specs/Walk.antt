@@ -1,5 +1,5 @@
 -- The kinds of expressions, and the first fault of one: operands before it, each tried against the kind of its place before
--- the next is looked at.
+-- the next is looked at. `at` is the place of the expression's JSON form, a list whose item 0 is the operator and whose operands follow.
 use Rattle.std.specs.Prelude.{ℕ, ◌+◌, Bool, List, [], ◌∷◌, ◌++◌, Result, Ok, Err, ok_or, ⊤}
 use Rattle.ledger_terms.specs.Pointers.{at_item}
 use Rattle.ledger_terms.specs.declared.kind.Kind.{Kind}
@@ -15,10 +15,11 @@ use Rattle.lang_check.specs.declared.check_fault.CheckFault.{CheckFault}
 use Rattle.lang_check.specs.declared.check_kind.CheckKind.TheVariants.{UnknownName, WrongKind}
 use Rattle.lang_check.specs.Faults.{Place, fault, ◌>>=◌, tried}
 
+-- whether two kinds are the same
 abbrev pub same_kind : Kind → Kind → Bool
 same_kind j k = kind_eq.ghosts.eq j k
 
--- A contract is no literal of the language, so it has the kind of no place.
+-- the kind of the literal at this place; a contract is no literal of the language, and is a WrongKind
 abbrev pub literal_kind : Place → Value → Result Kind CheckFault
 literal_kind at UnitValue = Ok UnitKind
 literal_kind at (Int n) = Ok IntKind
@@ -28,46 +29,49 @@ literal_kind at (Party a) = Ok PartyKind
 literal_kind at (Contract id) = Err (fault WrongKind at)
 literal_kind at (Parties s) = Ok PartiesKind
 
--- what is found in a place of this kind has the kind
+-- nothing where the kind that was found of an expression at this place is `k`, else WrongKind there, or the fault that was found
 abbrev pub in_place : Place → Kind → Result Kind CheckFault → Result ⊤ CheckFault
 in_place at k found = do
   j ← found
   tried (same_kind j k) WrongKind at
 
--- one operand in a place of this kind, and then the kind of the whole
+-- The kind `whole` of an operator with one operand, where that was found of kind j; else the first fault. `a` is what its walk found.
 abbrev pub one_operand : Place → Kind → Kind → Result Kind CheckFault → Result Kind CheckFault
 one_operand at j whole a = do
   _ ← in_place (at_item at 1) j a
   Ok whole
 
--- two operands in places of these kinds, and then the kind of the whole
+-- The kind `whole` of an operator with two operands, where the first was found of kind j and the second of kind k; else the first fault.
+-- `a` and `b` are what their walks found.
 abbrev pub two_operands : Place → Kind → Kind → Kind → Result Kind CheckFault → Result Kind CheckFault → Result Kind CheckFault
 two_operands at j k whole a b = do
   _ ← in_place (at_item at 1) j a
   _ ← in_place (at_item at 2) k b
   Ok whole
 
--- the kind of a whole, behind the walk of its operands
+-- the kind `whole` where the walk of the operands has no fault, else that fault; so the code ends an operator, and a proof compares it
 abbrev pub whole_behind : Kind → Result ⊤ CheckFault → Result Kind CheckFault
 whole_behind whole operands = do
   _ ← operands
   Ok whole
 
--- the second of two operands in a place of this kind, behind the walk of the first, and then the kind of the whole
+-- the kind `whole` where the walk of the first operand has no fault and the second was found of kind k, else the first fault; so the code
+-- walks two operands
 abbrev pub second_behind : Place → Kind → Kind → Result ⊤ CheckFault → Result Kind CheckFault → Result Kind CheckFault
 second_behind at k whole first b = do
   _ ← first
   _ ← in_place (at_item at 2) k b
   Ok whole
 
--- two operands of one kind, which the first one fixes
+-- Bool, the kind of `Equal`, where both operands were found of one kind, which the first one fixes; else the first fault
 abbrev pub alike_operands : Place → Result Kind CheckFault → Result Kind CheckFault → Result Kind CheckFault
 alike_operands at a b = do
   k ← a
   _ ← in_place (at_item at 2) k b
   Ok BoolKind
 
--- a test, and two sides of one kind, which the first one fixes
+-- the kind of `Cond`: its test c was found a Bool, and both sides of one kind, which the first one fixes and which is the answer; else the
+-- first fault
 abbrev pub sides_alike : Place → Result Kind CheckFault → Result Kind CheckFault → Result Kind CheckFault → Result Kind CheckFault
 sides_alike at c a b = do
   _ ← in_place (at_item at 1) BoolKind c
@@ -76,7 +80,7 @@ sides_alike at c a b = do
   Ok k
 
 abbrev mutual
-  -- the kind of the expression at a place, or its first fault
+  -- the kind of the expression at this place in this scope, or its first fault
   pub kind_at : Place → Scope → ExprForm → Result Kind CheckFault
   kind_at at scope (Literal v) = literal_kind at v
   kind_at at scope (Var x) = ok_or (kind_named x scope) (fault UnknownName at)
@@ -95,17 +99,17 @@ abbrev mutual
   kind_at at scope (Union a b) = two_operands at PartiesKind PartiesKind PartiesKind (kind_at (at_item at 1) scope a) (kind_at (at_item at 2) scope b)
   kind_at at scope (Has a b) = two_operands at PartiesKind PartyKind BoolKind (kind_at (at_item at 1) scope a) (kind_at (at_item at 2) scope b)
 
-  -- the expressions of a list from the i-th item on, each in a place of this kind
+  -- nothing where the expressions, which are the i-th item and further of the list at this place, all have this kind; else the first fault
   pub all_in_place : Place → ℕ → Scope → Kind → ExprForms → Result ⊤ CheckFault
   all_in_place at i scope k NoExprs = Ok tt
   all_in_place at i scope k (MoreExprs e es) =
       in_place (at_item at i) k (kind_at (at_item at i) scope e) >>= λ _. all_in_place at (i + 1) scope k es
 
--- an expression in a place of this kind
+-- nothing where the expression at this place has this kind in this scope, else its first fault
 unfoldable pub expr_at : Place → Scope → Kind → ExprForm → Result ⊤ CheckFault
 expr_at at scope k e = in_place at k (kind_at at scope e)
 
--- the kinds of the expressions of a list from the i-th on, behind those before them
+-- the kinds `before`, and behind them those of expressions that are the i-th and further of the list at this place; or the first fault
 abbrev pub kinds_from : Place → ℕ → Scope → List Kind → ExprForms → Result (List Kind) CheckFault
 kinds_from at i scope before NoExprs = Ok before
 kinds_from at i scope before (MoreExprs e es) =

@@ -7,12 +7,19 @@ use std::fmt;
 /// The kind of a fault, or want of memory, which has no place in the packages.
 #[derive(Clone, Copy, PartialEq, Eq)]
 pub enum CheckKind {
+    /// The name is declared or bound already.
     DuplicateName,
+    /// A variable isn't in scope.
     UnknownName,
+    /// No template that may be named here has the name.
     UnknownTemplate,
+    /// The template has no choice of the name.
     UnknownChoice,
+    /// An expression, an operand or a field has another kind than its place asks for.
     WrongKind,
+    /// Fields or arguments aren't as many as declared.
     WrongCount,
+    /// A choice is called Archive, as the one that each template has built in.
     Reserved,
     Memory,
 }

@@ -26,20 +26,20 @@ ghost use Rattle.lang_check.specs.declared.check_fault.CheckFault.{CheckFault};
 ghost use Rattle.lang_check.specs.declared.check_kind.CheckKind.TheVariants.{Memory};
 ghost use Rattle.lang_check.specs.Packages.{walk};
 
-/// An expression has one kind at most.
+/// An expression has one kind at most in a scope.
 pub fn kinds_are_unique()
     ensures { (e : ExprForm) (scope : Scope) (j k : Kind) → HasKind e scope j → HasKind e scope k → j ≡ k }
 {}
 
-/// The value of an expression that is well typed under the kinds of names has its kind. So no operand of a wrong kind, for
-/// which Unit stands, is ever met.
+/// Where an expression has a kind in the scope of these names (`kinds_in`), its value under them is of that kind. So well-typed code never
+/// meets an operand of a wrong kind, for which evaluation has a default.
 pub fn values_have_their_kinds()
     ensures { (e : ExprForm) (names : Names) (k : Kind) (v : Value) → HasKind e (kinds_in names) k → val e names ≡ Ok v → kind_of v ≡ k }
 {}
 
-/// A call of a choice of checked packages, on a contract and with arguments of their kinds, where what was seen answers the
-/// steps before it: its body asks only for templates and choices that are there, with fields and arguments of their kinds,
-/// and its result has the choice's kind.
+/// The body of a choice of checked packages asks only for templates and choices that are there, with fields and arguments of their kinds,
+/// and its result has the choice's kind. The call is of a contract and with arguments of their kinds, and each result of a child that it
+/// was told (`seen`) answers the step before it.
 pub fn bodies_ask_for_what_is_there()
     ensures { (packages : Packages) (call : ChoiceCall) (c : ChoiceForm) (seen : List ChildResult) (step : Step)
         → AreChecked packages
@@ -51,8 +51,8 @@ pub fn bodies_ask_for_what_is_there()
         → IsAsked packages c.returns step }
 {}
 
-/// What says whether a contract may be, and who its parties are, is evaluated to a truth value and to sets of parties, and so
-/// are the controllers and observers of a call.
+/// In checked packages an `ensure` that has a value gives a truth value, and signatories, observers, controllers and choice observers that
+/// have one give sets of parties, where fields and arguments have their kinds.
 pub fn parties_are_evaluated_to_sets()
     ensures contract { (packages : Packages) (t : TemplateForm) (i : Instance)
         → AreChecked packages
@@ -68,23 +68,22 @@ pub fn parties_are_evaluated_to_sets()
         → IsCallEvaluable t c call }
 {}
 
-/// The faults of evaluations are those of the language, and never want of memory.
+/// By the definitions no expression (`val`) and no step of a body (`next`) has want of memory as its fault: that is the code's alone.
 pub fn evaluations_want_no_memory()
     ensures value { (e : ExprForm) (names : Names) (f : EvalFault) → val e names ≡ Err f → f ≢ EvalMemory }
     ensures body { (packages : Packages) (call : ChoiceCall) (seen : List ChildResult) (f : EvalFault) → next packages call seen ≡ Err f → f ≢ EvalMemory }
 {}
 
-/// The faults of expressions are numbers and texts beyond their limits. Those of bodies are these and an assertion, and no
-/// fault of a contract.
+/// An expression can only have the fault of a number or a text beyond its limit (Overflow, TooLarge), and the step of a body only these or
+/// that of an assertion (Assert), well typed or not. Neither has a fault of contracts (Ensure, NoSignatory).
 pub fn evaluations_fault_at_their_limits()
     ensures value { (e : ExprForm) (names : Names) (f : EvalFault) → val e names ≡ Err f → IsOverLimit f }
     ensures body { (packages : Packages) (call : ChoiceCall) (seen : List ChildResult) (f : EvalFault) → next packages call seen ≡ Err f → IsOfBodies f }
 {}
 
-/// The definitions of evaluation give something for a wrong kind, for a name that isn't bound and for a template or choice that
-/// isn't there. A well-typed expression takes none of it, and nor does the body of a checked package where what was seen answers
-/// the steps before it. So such a body has the fault of an assertion exactly where one of its assertions is reached and is
-/// evaluated to false.
+/// Where a kind is wrong, a name isn't bound, or a template or choice isn't there, the definitions of evaluation give a default. A well-typed
+/// expression takes none, nor does the body of a checked package where what its children gave (`seen`) answers the steps before it. So
+/// such a body has the fault of an assertion exactly where one of its assertions is reached and is evaluated to false.
 pub fn no_default_is_taken()
     ensures expression { (e : ExprForm) (names : Names) (k : Kind) → HasKind e (kinds_in names) k → TakesNoDefault e names }
     ensures body { (packages : Packages) (call : ChoiceCall) (t : TemplateForm) (c : ChoiceForm) (seen : List ChildResult)
@@ -105,8 +104,8 @@ pub fn no_default_is_taken()
         → (next packages call seen ≡ Err AssertFault) ↔ AreRefuted c.body packages (names_of t c call) seen }
 {}
 
-/// The faults of a contract of a checked package are limits, an `ensure` that is false and the want of a signatory; those of
-/// a call's controllers and observers are limits.
+/// In checked packages, and where fields and arguments have their kinds, the parties of a contract that is created have a fault for one of
+/// three causes alone: a number or text beyond its limit, an `ensure` that is false, or no signatory. Those of a call have only the first.
 pub fn parties_fault_by_their_terms()
     ensures created { (packages : Packages) (t : TemplateForm) (i : Instance) (f : EvalFault)
         → AreChecked packages
@@ -124,12 +123,12 @@ pub fn parties_fault_by_their_terms()
         → IsOverLimit f }
 {}
 
-/// A walk's fault is one of packages, and no want of memory.
+/// The definition of the check, `walk`, never has want of memory as its fault: that is the code's alone.
 pub fn walks_want_no_memory()
     ensures { (packages : Packages) (f : CheckFault) → walk packages ≡ Err f → f.kind ≢ Memory }
 {}
 
-/// A walk finds no fault exactly where the packages are well typed.
+/// The check of packages, `walk`, finds no fault exactly where they are well typed.
 pub fn faultless_packages_are_typed()
     ensures { (packages : Packages) → (walk packages ≡ Ok tt) ↔ ArePackages (note_form ∷ []) packages }
 {}

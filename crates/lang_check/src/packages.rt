@@ -76,7 +76,7 @@ fn checked(alloc: Global, packages: PackageList) -> Result<Checked, Stop>
     Ok(checked)
 }
 
-/// The packages with what is built in, where they are well typed; otherwise the fault that a walk finds first.
+/// Checks packages: the packages with what is built in, where they are well typed; otherwise the fault that a walk finds first.
 ///
 /// The walk takes packages in order; in a package its name, the names of its templates, then the templates; in a template
 /// its fields, `ensure`, signatories, observers, choices; in a choice its name, parameters, controllers, observers, body,

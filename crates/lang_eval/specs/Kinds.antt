@@ -12,6 +12,7 @@ use Rattle.ledger_terms.specs.Packages.{TemplateForm, ChoiceForm}
 use Rattle.ledger_model.specs.declared.step.ChoiceCall.{ChoiceCall}
 use Rattle.lang_eval.specs.Found.{Packages, template_in, choice_in}
 
+-- the kind of a value
 abbrev pub kind_of : Value → Kind
 kind_of Unit = UnitKind
 kind_of (Int n) = IntKind
@@ -21,24 +22,26 @@ kind_of (Party a) = PartyKind
 kind_of (Contract id) = ContractKind
 kind_of (Parties s) = PartiesKind
 
--- they are as many as declared, and have the kinds
+-- whether values are as many as the fields or parameters that are declared, and each has the kind of its own
 abbrev pub have_kinds : List Value → List FieldDecl → Bool
 have_kinds [] [] = true
 have_kinds (v ∷ vs) (d ∷ ds) = kind_eq.ghosts.eq (kind_of v) d.kind && have_kinds vs ds
 have_kinds vs ds = false
 
+-- whether the instance's fields have the kinds of a template that was looked up; false without a template
 abbrev pub fields_have_kinds : Option TemplateForm → Instance → Bool
 fields_have_kinds None i = false
 fields_have_kinds (Some t) i = have_kinds i.fields t.fields
 
+-- whether the call's arguments have the kinds of a choice that was looked up; false without a choice
 abbrev pub args_have_kinds : Option ChoiceForm → ChoiceCall → Bool
 args_have_kinds None call = false
 args_have_kinds (Some c) call = have_kinds call.args c.params
 
--- the template is there, and the fields have its kinds
+-- whether the instance's template is there, and its fields are as many as declared and have the kinds
 abbrev pub has_kinds : Packages → Instance → Bool
 has_kinds packages i = fields_have_kinds (template_in i.template packages) i
 
--- the choice is there, and the arguments have its kinds
+-- whether the call's choice is there, and its arguments are as many as declared and have the kinds
 abbrev pub call_has_kinds : Packages → ChoiceCall → Bool
 call_has_kinds packages call = args_have_kinds (choice_in call.instance.template call.choice packages) call

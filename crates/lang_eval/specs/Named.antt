@@ -1,4 +1,4 @@
--- The parties that values, expressions, packages and actions name.
+-- The parties that values, expressions, packages and actions name. The lists may have a party more than once, in any order.
 use Rattle.std.specs.Prelude.{◌≡◌, ℕ, Bool, true, List, [], ◌∷◌, ◌++◌}
 use Rattle.std.specs.List.{list_all, flat_map}
 use Rattle.ledger_terms.specs.declared.value.Value.{Value}
@@ -23,27 +23,30 @@ use Rattle.lang_eval.specs.Names.{Names}
 use Rattle.lang_eval.specs.Found.{Packages}
 use Rattle.lang_eval.specs.Parts.{PartyNames}
 
--- each of the parties is known
+-- each of the parties passes the test `known`, which says of a party whether it is known, as to a topology
 abbrev pub AreKnown : (known : List ℕ → Bool) → PartyNames → Type 0
 AreKnown known parties = list_all known parties ≡ true
 
+-- the parties that a value names: the party that it is, or the members of a set; none of another kind
 abbrev pub parties_in_value : Value → PartyNames
 parties_in_value (Party a) = a ∷ []
 parties_in_value (Parties s) = s
 parties_in_value v = []
 
+-- the parties that any of the values names
 abbrev pub parties_in_values : List Value → PartyNames
 parties_in_values values = flat_map parties_in_value values
 
--- those of the values that are bound
+-- the parties that the values of bound names name
 abbrev pub parties_in_names : Names → PartyNames
 parties_in_names names = flat_map (λ (b : Binding). parties_in_value b.value) names
 
+-- the parties that the fields of an instance name
 abbrev pub parties_in_instance : Instance → PartyNames
 parties_in_instance i = parties_in_values i.fields
 
 abbrev mutual
-  -- those of an expression's literals
+  -- the parties that the literals of an expression name
   pub parties_in_expr : ExprForm → PartyNames
   parties_in_expr (Literal v) = parties_in_value v
   parties_in_expr (Var x) = []
@@ -62,12 +65,13 @@ abbrev mutual
   parties_in_expr (Union a b) = parties_in_expr a ++ parties_in_expr b
   parties_in_expr (Has a b) = parties_in_expr a ++ parties_in_expr b
 
+  -- the parties that the literals of any of the expressions name
   pub parties_in_exprs : ExprForms → PartyNames
   parties_in_exprs NoExprs = []
   parties_in_exprs (MoreExprs e es) = parties_in_expr e ++ parties_in_exprs es
 
 abbrev mutual
-  -- those of the literals of a statement's expressions
+  -- the parties that the literals in a statement's expressions name
   pub parties_in_stmt : StmtForm → PartyNames
   parties_in_stmt (Bind x e) = parties_in_expr e
   parties_in_stmt (Assert e) = parties_in_expr e
@@ -76,52 +80,60 @@ abbrev mutual
   parties_in_stmt (Fetch x t e) = parties_in_expr e
   parties_in_stmt (When e first second) = parties_in_expr e ++ (parties_in_stmts first ++ parties_in_stmts second)
 
+  -- the parties that the literals in any of the statements name
   pub parties_in_stmts : StmtForms → PartyNames
   parties_in_stmts NoStmts = []
   parties_in_stmts (MoreStmts s ss) = parties_in_stmt s ++ parties_in_stmts ss
 
+-- the parties that the literals of a choice name: in its controllers, its observers, its body and its result
 abbrev pub parties_in_choice : ChoiceForm → PartyNames
 parties_in_choice c = parties_in_expr c.controllers ++ (parties_in_expr c.observers ++ (parties_in_stmts c.body ++ parties_in_expr c.result))
 
+-- the parties that the literals of a template name: in its ensure, signatories, observers and choices
 abbrev pub parties_in_template : TemplateForm → PartyNames
 parties_in_template t =
     parties_in_expr t.ensure ++ (parties_in_expr t.signatories ++ (parties_in_expr t.observers ++ flat_map parties_in_choice t.choices))
 
+-- the parties that the literals of a package name
 abbrev pub parties_in_package : PackageForm → PartyNames
 parties_in_package p = flat_map parties_in_template p.templates
 
+-- the parties that the literals of any of the packages name
 abbrev pub parties_in_packages : Packages → PartyNames
 parties_in_packages packages = flat_map parties_in_package packages
 
--- those of the contract and of the arguments
+-- the parties that a call names: in its contract's fields and in its arguments
 abbrev pub parties_in_call : ChoiceCall → PartyNames
 parties_in_call call = parties_in_instance call.instance ++ parties_in_values call.args
 
+-- the parties that what a child gave names: in the result of an Exercise or the fields of a fetched contract; a created contract names none
 abbrev pub parties_in_seen : ChildResult → PartyNames
 parties_in_seen (Created id) = []
 parties_in_seen (Returned v) = parties_in_value v
 parties_in_seen (Fetched i) = parties_in_instance i
 
--- those of the fields, arguments or result
+-- the parties that a step of a body names: in the fields of a Create, the arguments of an Exercise, or the result; a Fetch names none
 abbrev pub parties_in_step : Step → PartyNames
 parties_in_step (CreateNext t fields) = parties_in_values fields
 parties_in_step (ExerciseNext t id choice args) = parties_in_values args
 parties_in_step (FetchNext t id) = []
 parties_in_step (Done v) = parties_in_value v
 
--- those of its fields, arguments and result, and its actors
+-- the parties that an action names: in its contract's fields, its arguments and its result, and as its actors
 abbrev pub parties_in_action : Action → PartyNames
 parties_in_action (CreateAction id i) = parties_in_instance i
 parties_in_action (ExerciseAction id salt i choice args actors consuming result) =
     parties_in_instance i ++ (parties_in_values args ++ (actors ++ parties_in_value result))
 parties_in_action (FetchAction id salt i actors) = parties_in_instance i ++ actors
 
+-- the signatories and the observers of a contract, in one list
 abbrev pub stakeholder_names : ContractParties → PartyNames
 stakeholder_names p = p.signatories ++ p.observers
 
+-- the controllers and the observers of a call, in one list
 abbrev pub choice_party_names : ChoiceParties → PartyNames
 choice_party_names p = p.controllers ++ p.observers
 
--- the parties of the five sets
+-- the parties of an action's five sets, in one list
 abbrev pub parties_in_roles : Roles → PartyNames
 parties_in_roles r = r.signatories ++ (r.observers ++ (r.actors ++ (r.informees ++ r.confirmers)))

@@ -1,4 +1,5 @@
--- What a choice's body does after what its children so far gave.
+-- What a choice's body does after what its children so far gave. The body is run from its beginning: each Create, Exercise or Fetch
+-- takes the first result of a child that isn't taken yet (`seen`), and the first of them that finds none is what the body does next.
 use Rattle.std.specs.Prelude.{ℕ, Bool, true, false, cond, List, [], ◌∷◌, length, take, Option, Some, None, Result, Ok, Err}
 use Rattle.ledger_terms.specs.declared.template_name.TemplateName.{TemplateName}
 use Rattle.ledger_terms.specs.declared.value.Value.{Value}
@@ -16,64 +17,73 @@ use Rattle.lang_eval.specs.Names.{Names, bound_to, with_fields, with_this, with_
 use Rattle.lang_eval.specs.Value.{val, vals, truth, with_value}
 use Rattle.lang_eval.specs.Found.{Packages, template_in, choice_in, fields_of}
 
--- How statements end: with a step or a fault, or with the names and what is still to be seen.
+-- How statements end. Either they stop at their next step or at a fault, or they go on to their end, with the names that are bound
+-- then and the results of children that they haven't taken.
 pub data Ran : Type 0 where
   Stopped : Result Step EvalFault → Ran
   Went : Names → List ChildResult → Ran
 
--- what a child gives as one value
+-- What a child gives as one value: a Create the contract, an Exercise its result. A Fetch, of which fields are bound, gives Unit.
 abbrev pub value_seen : ChildResult → Value
 value_seen (Created id) = Contract id
 value_seen (Returned v) = v
 value_seen (Fetched i) = UnitValue
 
--- and as the fields of a contract
+-- the values of the fields of a contract that was fetched; none of another child
 abbrev pub fields_seen : ChildResult → List Value
 fields_seen (Fetched i) = i.fields
 fields_seen s = []
 
--- The contract that a value names. Another value, which no checked statement has there, names none.
+-- The id of the contract that a value names. Another value, which no checked statement has there, gives Assert.
 abbrev pub id_in : Value → Result (List ℕ) EvalFault
 id_in (Contract id) = Ok id
 id_in v = Err AssertFault
 
+-- the id of the contract that an expression gives under these names, or the first fault
 abbrev pub id_of : ExprForm → Names → Result (List ℕ) EvalFault
 id_of e names = with_value (val e names) (λ v. id_in v)
 
--- goes on with a value, or stops at a fault
+-- how statements go on with the value of an evaluation; at a fault they stop
 abbrev pub on_value : {A : Type 0} → Result A EvalFault → (A → Ran) → Ran
 on_value (Ok v) go = go v
 on_value (Err e) go = Stopped (Err e)
 
+-- after an assertion: the rest where it is true, and where it is false a stop at Assert
 abbrev pub asserted : Bool → Ran → Ran
 asserted true rest = rest
 asserted false rest = Stopped (Err AssertFault)
 
--- A step that was taken gives what is seen first, and one that wasn't is where the statements stop.
+-- How a Create, Exercise or Fetch ends, which has this step or a fault. Where a child's result is left it takes the first, of which `binds` gives the
+-- names that are bound then; where none is left, the statements stop with the step or the fault.
 abbrev pub taken : Result Step EvalFault → (ChildResult → Names) → List ChildResult → Ran
 taken step binds [] = Stopped step
 taken step binds (s ∷ seen) = Went (binds s) seen
 
--- what was bound since ends
+-- The end of one side of a `when`, before which these names were bound: of the names that are bound at its end only those are left. A stop stays a
+-- stop.
 abbrev pub closed : Names → Ran → Ran
 closed names (Stopped step) = Stopped step
 closed names (Went more seen) = Went (take (length names) more) seen
 
--- then the statements that follow
+-- how the statements that follow go on from where those before them ended; a stop stays a stop
 abbrev pub then_on : Ran → (Names → List ChildResult → Ran) → Ran
 then_on (Stopped step) rest = Stopped step
 then_on (Went names seen) rest = rest names seen
 
+-- the step that creates a contract of template `t` with these values, or the fault of their evaluation
 abbrev pub create_step : TemplateName → Result (List Value) EvalFault → Result Step EvalFault
 create_step t fields = with_value fields (λ vs. Ok (CreateNext t vs))
 
+-- The step that exercises a choice. The contract's id and the arguments are answers of evaluations; the id's fault comes first.
 abbrev pub exercise_step : TemplateName → List ℕ → Result (List ℕ) EvalFault → Result (List Value) EvalFault → Result Step EvalFault
 exercise_step t choice contract args = with_value contract (λ id. with_value args (λ vs. Ok (ExerciseNext t id choice vs)))
 
+-- the step that fetches a contract, or the fault in the evaluation of its id
 abbrev pub fetch_step : TemplateName → Result (List ℕ) EvalFault → Result Step EvalFault
 fetch_step t contract = with_value contract (λ id. Ok (FetchNext t id))
 
 abbrev mutual
+  -- how a statement ends that begins with these names and these results of children
   pub ran : StmtForm → Packages → Names → List ChildResult → Ran
   ran (Bind x e) packages names seen = on_value (val e names) (λ v. Went (bound_to x v names) seen)
   ran (Assert e) packages names seen = on_value (truth e names) (λ b. asserted b (Went names seen))
@@ -85,28 +95,33 @@ abbrev mutual
   ran (When e first second) packages names seen =
       on_value (truth e names) (λ b. closed names (cond b (ran_all first packages names seen) (ran_all second packages names seen)))
 
+  -- how statements end, one after another, that begin with these names and these results of children
   pub ran_all : StmtForms → Packages → Names → List ChildResult → Ran
   ran_all NoStmts packages names seen = Went names seen
   ran_all (MoreStmts s ss) packages names seen = then_on (ran s packages names seen) (λ names seen. ran_all ss packages names seen)
 
--- the names that a body begins with
+-- the names that a body begins with: `self`, the contract's fields behind `this.`, and the arguments behind `arg.`
 abbrev pub names_of : TemplateForm → ChoiceForm → ChoiceCall → Names
 names_of template choice call = with_args choice.params call.args (with_this template.fields call.instance.fields (with_self call.id []))
 
--- after the body its result
+-- what a body does that ended so: the step or the fault at which it stopped, or after its last statement Done with the choice's result
 abbrev pub ended : ChoiceForm → Ran → Result Step EvalFault
 ended choice (Stopped step) = step
 ended choice (Went names seen) = with_value (val choice.result names) (λ v. Ok (Done v))
 
+-- what the body of this choice of this template does next in a call, after what its children so far gave (`seen`)
 abbrev pub next_of : TemplateForm → ChoiceForm → Packages → ChoiceCall → List ChildResult → Result Step EvalFault
 next_of template choice packages call seen = ended choice (ran_all choice.body packages (names_of template choice call) seen)
 
+-- What the body of a choice does next in a call, after what its children so far gave (`seen`), where template and choice were looked up. Where one of
+-- them isn't there it is Assert, as of a choice of which nobody asks.
 abbrev pub next_in : Option TemplateForm → Option ChoiceForm → Packages → ChoiceCall → List ChildResult → Result Step EvalFault
 next_in None choice packages call seen = Err AssertFault
 next_in (Some t) None packages call seen = Err AssertFault
 next_in (Some t) (Some c) packages call seen = next_of t c packages call seen
 
--- What the body of the call's choice does next. A choice that isn't there, of which nobody asks, gives Assert.
+-- What the body of the call's choice does next, after what its children so far gave: a step, or the first fault. Where the choice isn't
+-- there, of which nobody asks, it is Assert.
 unfoldable pub next : Packages → ChoiceCall → List ChildResult → Result Step EvalFault
 next packages call seen =
     next_in (template_in call.instance.template packages) (choice_in call.instance.template call.choice packages) packages call seen

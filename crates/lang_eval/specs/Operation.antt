@@ -7,6 +7,7 @@ use Rattle.lang_eval.specs.declared.operator.Operator.{Operator}
 use Rattle.lang_eval.specs.declared.operator.Operator.TheVariants.{Add, Subtract, Multiply, Less, LessEq, Equal, Cat, Union, Has}
 use Rattle.lang_eval.specs.Value.{Answer, sum_of, difference_of, product_of, is_less, is_less_eq, text_of, union_of, has_member}
 
+-- what an operator gives of the values of its first and its second operand, or a fault
 abbrev pub operation : Operator → Value → Value → Answer
 operation Add a b = sum_of a b
 operation Subtract a b = difference_of a b

@@ -39,7 +39,7 @@ fn made_value<'a>(made: &'a [Binding<'_>], name: &Text) -> Option<&'a Value>
 }
 
 impl<'a> Bindings<'a> {
-    /// No names.
+    /// A list of no names. Names that are bound later take their memory from `alloc`.
     pub fn new(alloc: Global) -> Bindings<'a>
         ensures { result ≡ [] }
     {
@@ -49,7 +49,7 @@ impl<'a> Bindings<'a> {
         }
     }
 
-    /// The names that an evaluation begins with.
+    /// The names that an evaluation begins with, and no others yet.
     pub(crate) fn of(alloc: Global, given: GivenNames<'a>) -> Bindings<'a>
         ensures { result ≡ given.entry }
     {
@@ -59,19 +59,19 @@ impl<'a> Bindings<'a> {
         }
     }
 
-    /// The allocator of the names, for what is made beside them.
+    /// The allocator from which the names take memory. An evaluation takes it for the values that it makes, too.
     pub fn allocator(&self) -> &Global {
         self.made.allocator()
     }
 
-    /// How many names there are.
+    /// How many names are bound.
     pub fn len(&self) -> usize
         ensures { result ≡ length self.now }
     {
         self.given.len() + self.made.len()
     }
 
-    /// The value of the name, where it is bound.
+    /// The value of the first binding that a variable with the text `name` means; None where that name isn't bound.
     #[tactic(auto, using(crate::proofs::Given::bound_first, crate::proofs::Given::bound_second))]
     pub fn value(&self, name: &Text) -> Option<&Value>
         ensures { option_copied result ≡ value_bound (binding_of name.now self.now) }
@@ -82,14 +82,14 @@ impl<'a> Bindings<'a> {
         made_value(self.made.as_slice(), name)
     }
 
-    /// Makes room for so many more names.
+    /// Makes room for `count` more names. The names that are bound stay as they are, also after want of memory.
     pub fn reserve(&mut self, count: usize) -> Result<(), AllocError>
         ensures { self.new ≡ self.old }
     {
         self.made.reserve(count)
     }
 
-    /// Binds the name.
+    /// Binds the name, which is given as its text, to the value, behind all names that are bound. After want of memory it isn't bound.
     pub fn bind(&mut self, name: Text, value: Value) -> Result<(), AllocError>
         ensures ok { OnOk result (self.new ≡ bound_to name value self.old) }
         ensures err { OnErr result (self.new ≡ self.old) }
@@ -97,7 +97,7 @@ impl<'a> Bindings<'a> {
         self.bind_as(BoundName::written(name), value)
     }
 
-    /// Binds the name, however it is spelled.
+    /// Binds the name, in whatever form it is kept, to the value, behind all names that are bound. After want of memory it isn't bound.
     pub fn bind_as(&mut self, name: BoundName, value: Value) -> Result<(), AllocError>
         ensures ok { OnOk result (self.new ≡ bound_to name value self.old) }
         ensures err { OnErr result (self.new ≡ self.old) }
@@ -105,7 +105,7 @@ impl<'a> Bindings<'a> {
         self.bind_held(name, HeldValue::made(value))
     }
 
-    /// Binds the name to a value that may stand elsewhere.
+    /// Binds a name to a value that may stand elsewhere. After want of memory the names are as they were.
     pub(crate) fn bind_held(
         &mut self,
         name: BoundName,
@@ -118,7 +118,7 @@ impl<'a> Bindings<'a> {
         Ok(())
     }
 
-    /// Forgets all but the first names.
+    /// Forgets all names behind the first `len`. So the names that a `when` binds end with it.
     #[tactic(auto, using(crate::proofs::Given::taken_of_two))]
     pub fn truncate(&mut self, len: usize)
         ensures { self.new ≡ take len self.old }

@@ -295,7 +295,7 @@ fn run_list<'s>(
     Ok(Run::Went(rest))
 }
 
-/// The names of a contract's fields.
+/// The names under which a template's expressions are evaluated: the contract's fields behind `this.`.
 #[tactic(auto, using(crate::proofs::Given::fields_behind))]
 pub(crate) fn field_names<'a>(
     alloc: Global,
@@ -360,7 +360,8 @@ fn next_under<'s>(
     }
 }
 
-/// What the body of a choice does next, with its template at hand.
+/// What the body of `choice`, which is a choice of `template`, does next in the call after `so_far`, the results of its children in order: a Create, an
+/// Exercise or a Fetch, or Done with the choice's result. An Err is the first fault of an evaluation, or want of memory.
 pub fn next_of_choice(
     alloc: Global,
     checked: &Checked,
@@ -375,9 +376,9 @@ pub fn next_of_choice(
     next_under(checked, choice, &mut names, so_far)
 }
 
-/// The next thing that the body of the call's choice does after `so_far`, what its children gave in order: a child that
-/// it asks for, its end with the result, or the first fault of an expression. The sizes of arguments and of the result
-/// are left to the caller.
+/// What the body of the call's choice does next after `so_far`, the results of its children in order: a Create, an Exercise or a Fetch, or Done with
+/// the choice's result. An Err is the first fault of an evaluation, Assert where the choice isn't there, or want of memory. The sizes of arguments and
+/// of the result are left to the caller.
 #[tactic(auto, unfolding(crate::specs::Next::next))]
 pub fn next_step(
     alloc: Global,

@@ -71,7 +71,8 @@ fn first_values<'a>(values: &'a [Value], len: usize) -> &'a [Value]
 }
 
 impl<'a> BoundFields<'a> {
-    /// The fields that are declared, each under the name of its owner, with their values.
+    /// The values of the fields or parameters that `decls` declares, in order, each under the owner's word, a dot and the field's name, as
+    /// `this.amount`. Where one list is longer than the other, the rest of it is left out.
     pub fn of(owner: Owner, decls: &'a [FieldDecl], values: &'a [Value]) -> BoundFields<'a>
         ensures { result ≡ with_fields (owner_word owner) decls.now values.now [] }
     {
@@ -82,14 +83,14 @@ impl<'a> BoundFields<'a> {
         }
     }
 
-    /// No fields.
+    /// No fields: for an evaluation without arguments, or without names.
     pub fn none() -> BoundFields<'a>
         ensures { result ≡ [] }
     {
         BoundFields::of(Owner::This, &[], &[])
     }
 
-    /// How many there are.
+    /// How many fields have a value.
     #[tactic(auto, using(crate::proofs::Given::counted_by_decls, crate::proofs::Given::counted_by_values))]
     pub fn len(&self) -> usize
         ensures count { result ≡ length self.now }
@@ -102,7 +103,7 @@ impl<'a> BoundFields<'a> {
         }
     }
 
-    /// The value of the field that a variable names, where it names one.
+    /// The value of the first field that a variable with the text `name` means, as `this.amount` does; None where it means none of these fields.
     pub fn value(&self, name: &Text) -> Option<&Value>
         ensures { option_copied result ≡ value_bound (binding_of name.now self.now) }
     {
@@ -111,7 +112,7 @@ impl<'a> BoundFields<'a> {
         field_value(owner, self.decls, self.values, text)
     }
 
-    /// Forgets all but the first.
+    /// Forgets all fields behind the first `len`.
     #[tactic(auto, using(crate::proofs::Given::fields_taken))]
     pub fn truncate(&mut self, len: usize)
         ensures { self.new ≡ take len self.old }

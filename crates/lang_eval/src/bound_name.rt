@@ -25,6 +25,7 @@ impl Model for BoundName {
     ghost view = { λ n. spelled n.spelling };
 }
 
+/// What a text has behind a dot, or None where it doesn't begin with one.
 fn behind_dot(text: &[u8]) -> Option<&[u8]>
     ensures { MatchOption result ((part : List ℕ) → text.now ≢ codes "." ++ part) (λ part. text.now ≡ codes "." ++ part.now) }
 {
@@ -34,7 +35,7 @@ fn behind_dot(text: &[u8]) -> Option<&[u8]>
     }
 }
 
-/// What a text has behind an owner's word and a dot, where it begins with them.
+/// What a text has behind an owner's word and a dot, or None where it doesn't begin with them.
 pub(crate) fn field_part<'a>(text: &'a [u8], owner: &[u8]) -> Option<&'a [u8]>
     ensures { MatchOption result ((field : List ℕ) → same_name (owner.now ++ codes "." ++ field) text.now ≡ false)
         (λ part. (field : List ℕ) → same_name (owner.now ++ codes "." ++ field) text.now ≡ same_name field part.now) }
@@ -55,7 +56,7 @@ fn is_field(text: &[u8], owner: &[u8], field: &[u8]) -> bool
 }
 
 impl BoundName {
-    /// A name that was given as a text.
+    /// The name that is spelled as this text, be it with a dot or without.
     pub fn written(text: Text) -> BoundName
         ensures { result ≡ text }
     {
@@ -64,7 +65,7 @@ impl BoundName {
         }
     }
 
-    /// The contract of a choice.
+    /// The name `self`, which a body has for the contract on which its choice is exercised.
     pub fn itself() -> BoundName
         ensures { result ≡ codes "self" }
     {
@@ -73,7 +74,7 @@ impl BoundName {
         }
     }
 
-    /// A name without a dot.
+    /// A name without a dot, as a statement of a body binds it.
     pub fn plain(name: Name) -> BoundName
         ensures { result ≡ name }
     {
@@ -82,7 +83,7 @@ impl BoundName {
         }
     }
 
-    /// The name of a field.
+    /// The name of a field or an argument: the word of its owner, a dot and `name`, as in `this.amount`.
     pub fn field(owner: Owner, name: Name) -> BoundName
         ensures { result ≡ owner_word owner ++ codes "." ++ name }
     {
@@ -91,7 +92,7 @@ impl BoundName {
         }
     }
 
-    /// Whether a variable that is written so means this name.
+    /// Whether this name is spelled as the text, so that a variable with that text means it.
     pub fn is_spelled(&self, text: &Text) -> bool
         ensures { result ≡ same_name self.now text.now }
     {

@@ -26,7 +26,7 @@ impl<'a> Model for CallParts<'a> {
 }
 
 impl<'a> CallParts<'a> {
-    /// The call of this choice of a contract.
+    /// The call of the choice with this name and these arguments, on the contract with this id and instance.
     pub fn of(
         id: &'a Hash,
         instance: &'a Instance,
@@ -43,28 +43,28 @@ impl<'a> CallParts<'a> {
         }
     }
 
-    /// The parts of a call.
+    /// The call, whose parts are borrowed from where it stands as a whole.
     pub fn of_call(call: &'a ChoiceCall) -> CallParts<'a>
         ensures { result ≡ call.now }
     {
         CallParts::of(&call.id, &call.instance, call.choice, &call.args)
     }
 
-    /// The contract.
+    /// The instance of the contract on which the choice is exercised.
     pub fn instance(&self) -> &Instance
         ensures { result.now ≡ self.now.instance }
     {
         self.instance
     }
 
-    /// The name of the choice.
+    /// The name of the choice that is exercised.
     pub fn choice(&self) -> Name
         ensures { result ≡ self.now.choice }
     {
         self.choice
     }
 
-    /// The arguments.
+    /// The arguments of the call, in the order of the choice's parameters.
     pub fn args(&self) -> &[Value]
         ensures { result.now ≡ self.now.args }
     {

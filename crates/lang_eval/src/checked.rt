@@ -37,7 +37,7 @@ impl Model for Checked {
     ghost invariant = { λ c. AreChecked c.packages };
 }
 
-/// The first package of that name.
+/// The first of the packages that has this name; None where none has.
 pub fn package_named(packages: &[Package], name: Name) -> Option<&Package>
     ensures { option_copied result ≡ find (λ p. same_name p.name name) packages.now }
 {
@@ -49,7 +49,7 @@ pub fn package_named(packages: &[Package], name: Name) -> Option<&Package>
     None
 }
 
-/// The first template of that name.
+/// The first of the templates that has this name; None where none has.
 pub fn template_named(templates: &[Template], name: Name) -> Option<&Template>
     ensures { option_copied result ≡ find (λ t. same_name t.name name) templates.now }
 {
@@ -61,7 +61,7 @@ pub fn template_named(templates: &[Template], name: Name) -> Option<&Template>
     None
 }
 
-/// The first choice of that name.
+/// The first of the choices that has this name; None where none has.
 pub fn choice_named(choices: &[Choice], name: Name) -> Option<&Choice>
     ensures { option_copied result ≡ find (λ c. same_name c.name name) choices.now }
 {
@@ -73,7 +73,7 @@ pub fn choice_named(choices: &[Choice], name: Name) -> Option<&Choice>
     None
 }
 
-/// The choice of that name of a template.
+/// The choice of that name of a template, or None where it has none.
 pub(crate) fn choice_of(template: &Template, name: Name) -> Option<&Choice>
     ensures { option_copied result ≡ choice_of (Some template.now) name }
 {
@@ -132,7 +132,8 @@ fn push_with_archives(
 impl Checked {
     ghost use Rattle.lang_eval.specs.Checking.{AreChecked};
 
-    /// The packages with Note before them and with the choice Archive at the end of each template's choices.
+    /// The packages that a script runs with: the built-in Note and then the given ones, in order, with the choice Archive behind the choices of each
+    /// template. The given ones have to be well typed after Note.
     pub fn of(alloc: Global, packages: PackageList) -> Result<Checked, AllocError>
         requires { ArePackages (note_form ∷ []) packages }
         ensures { IfOk result (λ c. c ≡ checked_packages packages) }
@@ -145,7 +146,7 @@ impl Checked {
         Ok(Checked { packages: checked })
     }
 
-    /// The packages in order, which come of well-typed ones after Note.
+    /// The packages in order, Note first. They are Note and well-typed packages, with Archive in each template (`checked`).
     pub fn as_slice(&self) -> &[Package]
         ensures packages { result.now ≡ self.now }
         ensures checked { AreChecked self.now }
@@ -153,7 +154,7 @@ impl Checked {
         self.packages.as_slice()
     }
 
-    /// The template of that name, and none exactly where there is none.
+    /// The template of that name; None exactly where its package or the template isn't there.
     pub fn template(&self, name: TemplateName) -> Option<&Template>
         ensures { option_copied result ≡ template_in name self.now }
     {
@@ -163,7 +164,7 @@ impl Checked {
         }
     }
 
-    /// The choice of that name of that template, Archive among them, and none exactly where there is none.
+    /// The choice of that name, which may be Archive, of the template of that name; None exactly where either isn't there.
     pub fn choice(&self, template: TemplateName, choice: Name) -> Option<&Choice>
         ensures { option_copied result ≡ choice_in template choice self.now }
     {

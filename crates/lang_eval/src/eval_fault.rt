@@ -22,7 +22,7 @@ pub enum EvalFault {
 }
 
 impl EvalFault {
-    /// The fault's word, as results spell it.
+    /// The fault's word, as reports spell it. Want of memory has the empty one, since no report tells of it.
     pub fn as_str(&self) -> &'static str
         ensures { result.now ≡ eval_fault_name self.now }
     {

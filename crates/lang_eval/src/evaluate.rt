@@ -156,8 +156,8 @@ fn hold_expr<'a>(expr: &'a Expr, names: &'a Bindings<'a>) -> Result<HeldValue<'a
     }
 }
 
-/// The value of an expression, or the first fault from the left. Operands of another kind than their operator's, which no
-/// well-typed expression has, give Unit.
+/// The value of an expression under these names. An Err is its first fault from the left, or want of memory. A variable that isn't bound and operands
+/// of another kind than their operator's, which no well-typed expression has, give Unit.
 pub fn eval_expr(expr: &Expr, names: &Bindings<'_>) -> Result<Value, EvalFault>
     ensures { UnlessMemory EvalFault.Memory result (val (expr_form expr.now) names.now) }
 {
@@ -165,7 +165,7 @@ pub fn eval_expr(expr: &Expr, names: &Bindings<'_>) -> Result<Value, EvalFault>
     Ok(held.into_value()?)
 }
 
-/// The values of expressions in order, or the first fault from the left.
+/// The values of the expressions under these names, in order. An Err is their first fault from the left, or want of memory.
 pub fn eval_list(exprs: &ExprList, names: &Bindings<'_>) -> Result<ValueList, EvalFault>
     ensures { UnlessMemory EvalFault.Memory result (vals (list_form exprs.now) names.now) }
 {
@@ -176,7 +176,8 @@ pub fn eval_list(exprs: &ExprList, names: &Bindings<'_>) -> Result<ValueList, Ev
     Ok(values)
 }
 
-/// Whether a test is true, or the first fault from the left.
+/// Whether the value of an expression under these names is the Bool true; a value of another kind isn't. An Err is its first fault from the left, or
+/// want of memory.
 pub fn eval_test(test: &Expr, names: &Bindings<'_>) -> Result<bool, EvalFault>
     ensures { UnlessMemory EvalFault.Memory result (truth (expr_form test.now) names.now) }
 {

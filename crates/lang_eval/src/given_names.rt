@@ -59,7 +59,7 @@ fn truncate_itself(itself: &mut Option<Value>, len: usize)
 }
 
 impl<'a> GivenNames<'a> {
-    /// No names.
+    /// No names, where an evaluation begins with none.
     pub fn none() -> GivenNames<'a>
         ensures { result ≡ [] }
     {
@@ -70,7 +70,8 @@ impl<'a> GivenNames<'a> {
         }
     }
 
-    /// The contract of a choice, where it is named, its fields and the arguments.
+    /// The names that an evaluation begins with, in this order: `self` with the value `itself`, or no `self` where that is None, as for signatories;
+    /// the contract's fields; and the choice's arguments.
     pub fn of(
         itself: Option<Value>,
         fields: BoundFields<'a>,
@@ -85,7 +86,7 @@ impl<'a> GivenNames<'a> {
         }
     }
 
-    /// How many names there are.
+    /// How many names are bound: `self`, fields and arguments together.
     pub fn len(&self) -> usize
         ensures count { result ≡ length self.now }
         ensures small { result < 2 ^ 60 }
@@ -93,7 +94,7 @@ impl<'a> GivenNames<'a> {
         itself_len(&self.itself) + self.fields.len() + self.arguments.len()
     }
 
-    /// The value of the name, where it is bound.
+    /// The value of the first binding that a variable with the text `name` means; None where that name isn't bound.
     #[tactic(auto, using(crate::proofs::Given::bound_first, crate::proofs::Given::bound_second))]
     pub fn value(&self, name: &Text) -> Option<&Value>
         ensures { option_copied result ≡ value_bound (binding_of name.now self.now) }
@@ -107,7 +108,7 @@ impl<'a> GivenNames<'a> {
         self.arguments.value(name)
     }
 
-    /// Forgets all but the first names.
+    /// Forgets all names behind the first `len`.
     #[tactic(auto, using(crate::proofs::Given::taken_of_two))]
     pub fn truncate(&mut self, len: usize)
         ensures { self.new ≡ take len self.old }

@@ -34,7 +34,7 @@ fn value_held<'a>(holding: &'a Holding<'_>) -> &'a Value
 }
 
 impl<'a> HeldValue<'a> {
-    /// A value that stands elsewhere.
+    /// A value that is borrowed from where it stands, as in a field or in an expression.
     pub fn given(value: &'a Value) -> HeldValue<'a>
         ensures { result ≡ value.now }
     {
@@ -43,7 +43,7 @@ impl<'a> HeldValue<'a> {
         }
     }
 
-    /// A value that was made.
+    /// A value that an evaluation made and that stands nowhere else.
     pub fn made(value: Value) -> HeldValue<'a>
         ensures { result ≡ value }
     {
@@ -52,14 +52,14 @@ impl<'a> HeldValue<'a> {
         }
     }
 
-    /// The value, to look at.
+    /// The value, be it borrowed or made, to look at.
     pub fn as_value(&self) -> &Value
         ensures { result.now ≡ self.now }
     {
         value_held(&self.holding)
     }
 
-    /// Whether it is true.
+    /// Whether the value is the Bool true; a value of another kind isn't.
     pub fn is_true(&self) -> bool
         ensures { result ≡ is_true self.now }
     {
@@ -69,7 +69,7 @@ impl<'a> HeldValue<'a> {
         }
     }
 
-    /// Whether it is false.
+    /// Whether the value is the Bool false; a value of another kind isn't, so of that neither test is true.
     pub fn is_false(&self) -> bool
         ensures { result ≡ is_false self.now }
     {
@@ -79,7 +79,7 @@ impl<'a> HeldValue<'a> {
         }
     }
 
-    /// The value, of which a copy is made where it stands elsewhere.
+    /// The value for the caller to keep. Where it was borrowed it is copied, and an Err is want of memory for the copy.
     pub fn into_value(self) -> Result<Value, AllocError>
         ensures { IfOk result (λ v. v ≡ self.entry) }
     {

@@ -21,7 +21,7 @@ pub fn kind_of(value: &Value) -> Kind
     }
 }
 
-/// Whether values are as many as declared and have the kinds.
+/// Whether the values are as many as the fields or parameters that are declared, and each has the kind of its own.
 pub fn have_kinds(values: &[Value], decls: &[FieldDecl]) -> bool
     ensures { result ≡ have_kinds values.now decls.now }
 {
@@ -36,7 +36,7 @@ pub fn have_kinds(values: &[Value], decls: &[FieldDecl]) -> bool
     true
 }
 
-/// Whether the template is there and the fields have its kinds.
+/// Whether the instance's template is there, and its fields are as many as the template declares and have their kinds.
 pub fn has_kinds(checked: &Checked, instance: &Instance) -> bool
     ensures { result ≡ has_kinds checked.now instance.now }
 {
@@ -46,7 +46,7 @@ pub fn has_kinds(checked: &Checked, instance: &Instance) -> bool
     }
 }
 
-/// Whether the choice is there and the arguments have the kinds of its parameters.
+/// Whether the call's choice is there, and its arguments are as many as the choice's parameters and have their kinds.
 pub fn call_has_kinds(checked: &Checked, call: &ChoiceCall) -> bool
     ensures { result ≡ call_has_kinds checked.now call.now }
 {

@@ -26,7 +26,7 @@ ghost use Rattle.lang_eval.specs.declared.contract_parties.ContractParties.{Cont
 ghost use Rattle.lang_eval.specs.declared.choice_parties.ChoiceParties.{ChoiceParties};
 ghost use Rattle.lang_eval.specs.Language.{language_of, roles_in};
 
-/// A body that asks for nothing ends with its result.
+/// A choice whose body has no statements is done at once, with the choice's result (`any`); so Archive is done at once with Unit (`archive`).
 pub fn empty_bodies_end()
     ensures any { (t : TemplateForm) (c : ChoiceForm) (packages : Packages) (call : ChoiceCall) (seen : List ChildResult)
         → c.body ≡ NoStmts
@@ -35,7 +35,7 @@ pub fn empty_bodies_end()
         → next_of t (archive_of signatories) packages call seen ≡ Ok (Done UnitValue) }
 {}
 
-/// What a `when` binds ends with it.
+/// Where a `when` comes to its end, the names that are bound after it are those that were bound before it: what one of its sides binds is forgotten.
 pub fn bindings_end()
     ensures { (e : ExprForm) (first second : StmtForms) (packages : Packages) (names : Names) (seen : List ChildResult) (more : Names)
         (left : List ChildResult)
@@ -43,15 +43,16 @@ pub fn bindings_end()
         → more ≡ names }
 {}
 
-/// Whoever confirms an action is informed of it.
+/// Each confirmer of an action is one of its informees.
 pub fn confirmers_are_informed()
     ensures { (packages : Packages) (action : Action) (party : List ℕ)
         → has_party (roles_in packages action).confirmers party ≡ true
         → has_party (roles_in packages action).informees party ≡ true }
 {}
 
-/// An evaluation names no party beyond those of the literals and of the values that are bound, and a body none beyond those of
-/// the packages, of the contract and the arguments, and of what its children gave.
+/// The value of an expression names no party beyond those of its literals and of the values that are bound (`value`). A step of a body names none
+/// beyond those of the packages, of the contract and the arguments, and of what its children gave (`step`). `known` is any test of parties, as whether
+/// one is of a topology.
 pub fn evaluations_name_no_other_parties()
     ensures value { (known : List ℕ → Bool) (e : ExprForm) (names : Names) (v : Value)
         → AreKnown known (parties_in_expr e)
@@ -66,7 +67,8 @@ pub fn evaluations_name_no_other_parties()
         → AreKnown known (parties_in_step step) }
 {}
 
-/// The parties of a contract and of a call are among those that the packages and the contract or the call name.
+/// The signatories and observers of a contract (`contract`, `created`), the controllers and observers of a call (`choice`) and its observers alone
+/// (`observers`) are among the parties that the packages and the contract or the call name. `known` is any test of parties.
 pub fn parties_are_named()
     ensures contract { (known : List ℕ → Bool) (packages : Packages) (i : Instance) (parties : ContractParties)
         → AreKnown known (parties_in_packages packages)
@@ -90,7 +92,7 @@ pub fn parties_are_named()
         → AreKnown known observers }
 {}
 
-/// The five sets of an action's roles have no party beyond those that the packages and the action name.
+/// The five sets of an action's roles have no party beyond those that the packages and the action name. `known` is any test of parties.
 pub fn roles_are_named()
     ensures { (known : List ℕ → Bool) (packages : Packages) (action : Action)
         → AreKnown known (parties_in_packages packages)
@@ -98,14 +100,15 @@ pub fn roles_are_named()
         → AreKnown known (parties_in_roles (roles_in packages action)) }
 {}
 
-/// What is built in names no party.
+/// The package Note and the choices Archive, which are built in, name no party: where all parties of the given packages pass the test `known`, so do
+/// all parties of the packages that a script runs with.
 pub fn built_in_packages_name_no_party()
     ensures { (known : List ℕ → Bool) (given : Packages)
         → AreKnown known (parties_in_packages given)
         → AreKnown known (parties_in_packages (checked_packages given)) }
 {}
 
-/// Roles hang on no size.
+/// The roles of an action are the same, whatever the two tests are that `language_of` is given for what hangs on sizes.
 pub fn roles_hang_on_no_size()
     ensures { (packages : Packages) (is_creatable : Instance → Bool) (is_exercisable : ChoiceCall → PartyNames → Bool → Value → Bool) (action : Action)
         → roles_of (language_of packages is_creatable is_exercisable) action ≡ roles_in packages action }

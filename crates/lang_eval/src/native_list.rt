@@ -30,14 +30,14 @@ impl Model for NativeList {
 }
 
 impl NativeList {
-    /// No natives.
+    /// A list of no natives, with which the language is asked for every choice.
     pub fn new(alloc: Global) -> NativeList {
         NativeList {
             items: Vec::new(alloc),
         }
     }
 
-    /// Puts a native at the end. An error leaves the list as it was.
+    /// Puts a native at the end of the list. After want of memory the list is as it was.
     pub fn push(&mut self, native: Box<dyn Native + Send + Sync>) -> Result<(), AllocError> {
         self.items.push(native)?;
         Ok(())
@@ -69,6 +69,7 @@ fn is_of(native: &Box<dyn Native + Send + Sync>, template: &TemplateName, choice
     same_templates(&native.template(), template) && same_choices(native.body(), choice)
 }
 
+/// What a native answers for a call, after the children so far.
 fn asked(
     native: &Box<dyn Native + Send + Sync>,
     checked: &Checked,
@@ -81,8 +82,8 @@ fn asked(
     native.next(checked, call, so_far)
 }
 
-/// What `next_step` answers. The first native with the template and the text of the call's choice is asked for it, and the
-/// language where there is none.
+/// What `next_step` answers: what the body of the call's choice does next after `so_far`, the results of its children in order. The first native with
+/// the template and the text of the call's choice is asked for it, and the language where there is none.
 #[tactic(auto, using(crate::proofs::Natives::native_is))]
 pub fn next_by(
     alloc: Global,

@@ -13,21 +13,21 @@ use ledger_terms::{
 };
 use std::alloc::{AllocError, Global};
 
-/// The name of the choice that each template has.
+/// The name `Archive` of the choice that each template has without being written.
 pub fn archive_name() -> Name
     ensures { result ≡ archive_name }
 {
     Name::read("Archive").unwrap()
 }
 
-/// The name of the package and of its template.
+/// The name `Note`, which both the built-in package and its one template have.
 pub fn note_name() -> Name
     ensures { result ≡ codes "Note" }
 {
     Name::read("Note").unwrap()
 }
 
-/// The template of notes.
+/// The full name of the template of notes: Note of the package Note.
 pub fn note_template_name() -> TemplateName
     ensures { result ≡ note_template_name }
 {
@@ -83,7 +83,8 @@ fn flash_body(alloc: Global) -> Result<StmtList, AllocError>
     Ok(body)
 }
 
-/// The choice Flash of notes, which creates a second note and archives it.
+/// The choice Flash of notes, in the contract language. The note's owner controls it, and it doesn't consume the note: it creates a second note, with
+/// the text `flash`, and archives that.
 pub fn flash_choice(alloc: Global) -> Result<Choice, AllocError>
     ensures { IfOk result (λ c. c ≡ flash_form) }
 {
@@ -128,7 +129,8 @@ fn note(alloc: Global) -> Result<Template, AllocError>
     })
 }
 
-/// A note of an owner, who signs it, to a reader, who observes it. Its choice Flash creates a second note and archives it.
+/// The built-in package Note. Its one template is the note of an owner, who signs it, to a reader, who observes it, with the choice Flash. Archive
+/// isn't among its choices yet.
 pub fn note_package(alloc: Global) -> Result<Package, AllocError>
     ensures { IfOk result (λ p. p ≡ note_form) }
 {

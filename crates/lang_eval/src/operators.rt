@@ -65,6 +65,7 @@ fn less_eq(a: &Value, b: &Value) -> Value
     }
 }
 
+/// The other Bool; Unit of another operand, which no well-typed expression has.
 pub(crate) fn negate(a: &Value) -> Value
     ensures { result ≡ negation_of a.now }
 {
@@ -126,7 +127,7 @@ pub(crate) fn put_party(set: &mut PartySet, value: &Value) -> Result<(), AllocEr
     }
 }
 
-/// What an operator gives of two values.
+/// What an operator gives of two values, or a fault; Unit of operands of another kind, which no well-typed expression has.
 pub(crate) fn apply(
     alloc: Global,
     operator: Operator,

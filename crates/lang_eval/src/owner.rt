@@ -16,7 +16,7 @@ pub enum Owner {
 }
 
 impl Owner {
-    /// The word before the dot.
+    /// The word before the dot: `this`, `arg`, or the name to which a Fetch bound the contract.
     pub fn as_str(&self) -> &str
         ensures { result.now ≡ owner_word self.now }
     {

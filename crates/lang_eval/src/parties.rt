@@ -74,6 +74,7 @@ fn parties_under(template: &Template, names: &Bindings<'_>) -> Result<ContractPa
     })
 }
 
+/// The signatories and observers of an instance of this template, whatever its `ensure` says, or the first fault.
 pub(crate) fn parties_by(
     alloc: Global,
     template: &Template,
@@ -85,7 +86,7 @@ pub(crate) fn parties_by(
     parties_under(template, &names)
 }
 
-/// The same after the `ensure` of a contract that is created.
+/// The signatories and observers under these names, after the template's `ensure`.
 fn created_under(template: &Template, names: &Bindings<'_>) -> Result<ContractParties, EvalFault>
     ensures { UnlessMemory EvalFault.Memory result
         (with_value (truth template.now.ensure names.now) (λ b. cond b (parties_under template.now names.now) (Err Ensure))) }
@@ -132,6 +133,7 @@ fn choice_by(
     choice_under(choice, &names)
 }
 
+/// The observers of a call of this choice of this template, or the first fault.
 pub(crate) fn observers_by(
     alloc: Global,
     template: &Template,
@@ -144,7 +146,8 @@ pub(crate) fn observers_by(
     eval_parties(&choice.observers, &names)
 }
 
-/// The signatories and observers of a contract, whatever its `ensure` says.
+/// The signatories and observers of a contract with this instance, by its template, whatever the template's `ensure` says. An Err is the first fault of
+/// an evaluation, NoSignatory where nobody signs, Assert where the template isn't there, or want of memory.
 #[tactic(auto, unfolding(crate::specs::Parts::parties_of_contract))]
 pub fn parties_of_contract(
     alloc: Global,
@@ -159,8 +162,9 @@ pub fn parties_of_contract(
     }
 }
 
-/// The signatories and observers of a contract that is created, after its `ensure`. The size of the instance is left to
-/// the caller.
+/// The signatories and observers of a contract that is to be created. An Err is Ensure where the template's `ensure` is false, which is tried first,
+/// NoSignatory where nobody signs, Assert where the template isn't there, another fault of an evaluation, or want of memory. The size of the instance
+/// is left to the caller.
 #[tactic(auto, unfolding(crate::specs::Parts::parties_of_created))]
 pub fn parties_of_created(
     alloc: Global,
@@ -175,7 +179,8 @@ pub fn parties_of_created(
     }
 }
 
-/// The controllers and observers of a call of a choice. The size of the arguments is left to the caller.
+/// The controllers and observers of a call, by its choice. An Err is the first fault of an evaluation, Assert where the choice isn't there, or want of
+/// memory. The size of the arguments is left to the caller.
 #[tactic(auto, unfolding(crate::specs::Parts::parties_of_choice))]
 pub fn parties_of_choice(
     alloc: Global,
@@ -193,7 +198,8 @@ pub fn parties_of_choice(
     }
 }
 
-/// The observers of a call of a choice, whatever its controllers are.
+/// The choice observers of a call, whatever its controllers are. An Err is the first fault of an evaluation, Assert where the choice isn't there, or
+/// want of memory.
 #[tactic(auto, unfolding(crate::specs::Parts::observers_of_choice))]
 pub fn observers_of_choice(
     alloc: Global,
@@ -211,7 +217,7 @@ pub fn observers_of_choice(
     }
 }
 
-/// Whether a call consumes its contract, as its choice says.
+/// Whether a call consumes its contract, as its choice says; false where the choice isn't there.
 pub fn is_consuming_call(checked: &Checked, call: &ChoiceCall) -> bool
     ensures { result ≡ is_consuming_call checked.now call.now }
 {

@@ -199,12 +199,10 @@ fn fetch_roles(
     Ok(with_actors(parties, actors, informees)?)
 }
 
-/// The parties of an action (Ledger Model: informees): the informees of a Create are the stakeholders, of a consuming
-/// Exercise the stakeholders, actors and choice observers, of another Exercise the signatories, actors and choice
-/// observers, and of a Fetch the signatories and actors; the confirmers are the signatories and actors. Whether an Exercise
-/// is consuming and who its actors are is taken from the action. There are none exactly where the template or the choice
-/// isn't there, a field or an argument hasn't its kind or their number differs, the signatories, the observers or the
-/// choice observers have no value, or there is no signatory; an `ensure` and the controllers play no part.
+/// The roles of an action. Informees of a Create are the stakeholders, of a consuming Exercise the stakeholders, the actors and the choice observers,
+/// of another Exercise the signatories, the actors and the choice observers, of a Fetch the signatories and the actors. Confirmers are the signatories
+/// and the actors. An Err is want of memory, or NoRoles exactly where the template or the choice isn't there, fields or arguments haven't the declared
+/// number or kinds, the signatories, observers or choice observers have no value, or nobody signs; `ensure` and controllers aren't evaluated.
 #[tactic(auto, using(crate::proofs::RoleLaws::roles_are))]
 pub fn roles(alloc: Global, checked: &Checked, action: &Action) -> Result<Roles, RoleFault>
     ensures { UnlessMemory RoleFault.Memory result (roles checked.now action.now) }

@@ -10,7 +10,7 @@ use Rattle.json_walk.specs.Walk.{Place}
 use Rattle.json_walk.specs.declared.walk_fault.WalkFault.{WalkFault}
 use Rattle.json_walk.specs.declared.walk_fault.WalkFault.TheVariants.{Shape}
 
--- the kind that a word names
+-- the kind of values that a word names, as `Int`; None where it names none
 unfoldable pub kind_named : List ℕ → Option Kind
 kind_named s =
     if bytes_eq s (codes "Unit") then Some kind.Unit else (
@@ -21,6 +21,7 @@ kind_named s =
     if bytes_eq s (codes "Contract") then Some kind.Contract else (
     if bytes_eq s (codes "Parties") then Some kind.Parties else None))))))
 
+-- the kind that the value `d` at the place `at` names; Shape where it is no text or names none
 unfoldable pub kind_of : Place → Data → Result Kind WalkFault
 kind_of at d = do
   s ← ok_or (as_str d) (Shape at)

@@ -15,7 +15,7 @@ use Rattle.lang_read.specs.declared.operator.Operator.TheVariants as op
 use Rattle.json_walk.specs.declared.walk_fault.WalkFault.{WalkFault}
 use Rattle.json_walk.specs.declared.walk_fault.WalkFault.TheVariants.{Shape}
 
--- the operator of two operands that a word names
+-- the operator of two operands that a word names; None where it names none of these
 unfoldable pub binary_named : List ℕ → Option Binary
 binary_named s =
     if bytes_eq s (codes "add") then Some binary.Add else (
@@ -30,7 +30,7 @@ binary_named s =
     if bytes_eq s (codes "union") then Some binary.Union else (
     if bytes_eq s (codes "has") then Some binary.Has else None))))))))))
 
--- the operator that a word names
+-- the operator that a word names, whatever the number of its operands; None where it names none
 unfoldable pub operator_named : List ℕ → Option Operator
 operator_named s =
     if bytes_eq s (codes "var") then Some op.Var else (
@@ -38,7 +38,7 @@ operator_named s =
     if bytes_eq s (codes "if") then Some op.Cond else (
     if bytes_eq s (codes "set") then Some op.SetOf else option_map op.Two (binary_named s))))
 
--- whether an operator has so many operands
+-- whether `n` items may stand behind an operator: for `set` at most MOST_SET_ITEMS, for each other just its number of operands
 abbrev pub takes : Operator → ℕ → Bool
 takes op.Var n = n == 1
 takes (op.Two b) n = n == 2
@@ -46,7 +46,8 @@ takes op.Negate n = n == 1
 takes op.Cond n = n == 3
 takes op.SetOf n = nat_le n MOST_SET_ITEMS
 
--- the operator that stands before n operands
+-- the operator that the first item `d` of a list at the place `at` names, with `n` items behind it; Shape where it is no text, names no operator,
+-- or the operator has not `n` operands
 unfoldable pub operator_of : Place → ℕ → Data → Result Operator WalkFault
 operator_of at n d = do
   s ← ok_or (as_str d) (Shape at)
@@ -54,7 +55,7 @@ operator_of at n d = do
   _ ← check (takes o n) (Shape at)
   Ok o
 
--- what an operator makes of its operands
+-- the expression that an operator makes of its two operands, in order
 abbrev pub binary_form : Binary → ExprForm → ExprForm → ExprForm
 binary_form binary.Add a b = form.Add a b
 binary_form binary.Sub a b = form.Sub a b

@@ -1,4 +1,5 @@
--- Statements of a choice's body, which are counted with those below a `when`.
+-- Statements of a choice's body, which are counted with those below a `when`. `hosts` is the topology, `at` the place of the value `d` that is read,
+-- `n` the number of statements that were counted before. A fault Shape says that a value has another form than it should.
 use Rattle.std.specs.Prelude.{ℕ, ◌+◌, Bool, List, [], ◌∷◌, if◌then◌else◌, Option, Some, None, Result, Ok, Err, codes}
 use Rattle.std.specs.Ordering.{nat_cmp, match_ordering}
 use Rattle.std.specs.Cmp.Lexicographic.{slice_cmp}
@@ -16,6 +17,7 @@ use Rattle.lang_read.specs.Exprs.{expr_of, expr_in, exprs_in}
 use Rattle.json_walk.specs.declared.walk_fault.WalkFault.{WalkFault}
 use Rattle.json_walk.specs.declared.walk_fault.WalkFault.TheVariants.{Shape}
 
+-- the statement that binds a value to a name, of what stands in `{"let": [name, expression]}`
 unfoldable pub bind_of : List Host → Place → Data → Result StmtForm WalkFault
 bind_of hosts at d = do
   items ← items_of at d
@@ -24,11 +26,13 @@ bind_of hosts at d = do
   value ← expr_of hosts (at_item at 1) 1 two.1
   Ok (Bind name value)
 
+-- the statement that a test is true, of the expression that stands in `{"assert": expression}`
 unfoldable pub assert_of : List Host → Place → Data → Result StmtForm WalkFault
 assert_of hosts at d = do
   test ← expr_of hosts at 1 d
   Ok (Assert test)
 
+-- the statement that creates a contract, of the object in `{"create": ..}`, and binds its id to the name `bind`
 unfoldable pub create_of : List Host → Place → Data → Result StmtForm WalkFault
 create_of hosts at d = do
   _ ← check (has_members (codes "bind" ∷ codes "template" ∷ codes "fields" ∷ []) [] d) (Shape at)
@@ -37,9 +41,11 @@ create_of hosts at d = do
   fields ← exprs_in hosts at (codes "fields") d
   Ok (Create bind template fields)
 
+-- whether a value is an object with just the members of a statement that exercises a choice
 unfoldable pub has_exercise_members : Data → Bool
 has_exercise_members d = has_members (codes "bind" ∷ codes "template" ∷ codes "contract" ∷ codes "choice" ∷ codes "args" ∷ []) [] d
 
+-- the statement that exercises a choice of a contract, of the object in `{"exercise": ..}`, and binds its result to the name `bind`
 unfoldable pub exercise_of : List Host → Place → Data → Result StmtForm WalkFault
 exercise_of hosts at d = do
   _ ← check (has_exercise_members d) (Shape at)
@@ -50,6 +56,7 @@ exercise_of hosts at d = do
   args ← exprs_in hosts at (codes "args") d
   Ok (Exercise bind template contract choice args)
 
+-- the statement that fetches a contract, of the object in `{"fetch": ..}`, and binds it to the name `bind`
 unfoldable pub fetch_of : List Host → Place → Data → Result StmtForm WalkFault
 fetch_of hosts at d = do
   _ ← check (has_members (codes "bind" ∷ codes "template" ∷ codes "contract" ∷ []) [] d) (Shape at)
@@ -58,15 +65,15 @@ fetch_of hosts at d = do
   contract ← expr_in hosts at (codes "contract") d
   Ok (Fetch bind template contract)
 
--- the object has this one member
+-- whether a value is an object with the member `k` and no other
 abbrev pub is_only : List ℕ → Data → Bool
 is_only k d = has_members (k ∷ []) [] d
 
--- what stands in the one member
+-- what `reading`, which takes a place and a value, gives of the member `k` of the object `d` at the place `at`; Shape where that is absent
 abbrev pub inside : (Place → Data → Result StmtForm WalkFault) → Place → List ℕ → Data → Result StmtForm WalkFault
 inside reading at k d = member_of at k d >>= reading (at_member at k)
 
--- a statement other than a `when`: an object with one member
+-- a statement other than a `when`: an object whose one member says which it is; else Shape
 unfoldable pub simple_of : List Host → Place → Data → Result StmtForm WalkFault
 simple_of hosts at d =
     if is_only (codes "let") d then inside (bind_of hosts) at (codes "let") d else (
@@ -75,11 +82,13 @@ simple_of hosts at d =
     if is_only (codes "exercise") d then inside (exercise_of hosts) at (codes "exercise") d else (
     if is_only (codes "fetch") d then inside (fetch_of hosts) at (codes "fetch") d else Err (Shape at)))))
 
+-- whether a value is an object with the members `if` and `then`, and no other but `else`
 unfoldable pub has_when_members : Data → Bool
 has_when_members d = has_members (codes "if" ∷ codes "then" ∷ []) (codes "else" ∷ []) d
 
--- Each reading takes the number of statements in the lists so far, and gives that number after it.
+-- Each of these takes `n`, the number of items of all lists of statements that were begun so far, and gives that number after it beside what it reads.
 abbrev mutual
+  -- the statement that a value spells, and the count after it; Shape where it is none
   pub stmt_of : List Host → Place → ℕ → Data → Result (StmtForm × ℕ) WalkFault
   stmt_of hosts at n (object ms) =
       if is_only (codes "when") (object ms)
@@ -91,13 +100,15 @@ abbrev mutual
   stmt_of hosts at n (string s) = Err (Shape at)
   stmt_of hosts at n (array ds) = Err (Shape at)
 
-  -- the member `when`, looked up as `get` does
+  -- the `when` in the first member of that name among the members of an object at the place `at`, and the count after it
   pub when_member : List Host → Place → ℕ → Members → Result (StmtForm × ℕ) WalkFault
   when_member hosts at n no_members = Err (Shape at)
   when_member hosts at n (member k d ms) =
       match_ordering (slice_cmp nat_cmp (codes "when") k) (when_member hosts at n ms) (when_of hosts (at_member at (codes "when")) n d)
       (when_member hosts at n ms)
 
+  -- the statement of the object in `{"when": ..}`: its test in `if`, the statements of `then`, and those of `else`, none where it is absent; and
+  -- the count after it
   pub when_of : List Host → Place → ℕ → Data → Result (StmtForm × ℕ) WalkFault
   when_of hosts at n (object ms) =
       check (has_when_members (object ms)) (Shape at)
@@ -111,12 +122,15 @@ abbrev mutual
   when_of hosts at n (string s) = Err (Shape at)
   when_of hosts at n (array ds) = Err (Shape at)
 
-  -- the statements of a member, looked up as `get` does, or what stands for them where it is absent
+  -- the statements in the first member named `k` among those of an object at the place `at`, and the count after them; `absent` where there is no
+  -- such member
   pub block_member : List Host → Place → ℕ → List ℕ → Result (StmtForms × ℕ) WalkFault → Members → Result (StmtForms × ℕ) WalkFault
   block_member hosts at n k absent no_members = absent
   block_member hosts at n k absent (member l d ms) =
       match_ordering (slice_cmp nat_cmp k l) (block_member hosts at n k absent ms) (block_of hosts (at_member at k) n d) (block_member hosts at n k absent ms)
 
+  -- the statements of a list, and the count after them: the list's length is counted, and the limit tried, before its items are read; Shape where
+  -- it is no list
   pub block_of : List Host → Place → ℕ → Data → Result (StmtForms × ℕ) WalkFault
   block_of hosts at n (array ds) =
       within_limit at STATEMENTS (n + item_count ds)
@@ -127,25 +141,28 @@ abbrev mutual
   block_of hosts at n (string s) = Err (Shape at)
   block_of hosts at n (object ms) = Err (Shape at)
 
-  -- the statements from the i-th item on, behind those before
+  -- Reads the items of a list of statements, of which the first is item i. `before` has the statements before them and the count so far, and the
+  -- result has both with these.
   pub stmts_from : List Host → Place → ℕ → StmtForms × ℕ → Items → Result (StmtForms × ℕ) WalkFault
   stmts_from hosts at i before no_items = Ok before
   stmts_from hosts at i before (item d ds) =
       stmt_of hosts (at_item at i) before.1 d
       >>= (λ s. stmts_from hosts at (i + 1) (stmts_join before.0 (one_stmt s.0), s.1) ds)
 
+-- the statements of a member at the place `at`, and the count after them; None, where there is no such member, gives `absent`
 abbrev pub block_if : List Host → Place → ℕ → Result (StmtForms × ℕ) WalkFault → Option Data → Result (StmtForms × ℕ) WalkFault
 block_if hosts at n absent None = absent
 block_if hosts at n absent (Some d) = block_of hosts at n d
 
--- the member `else`, which may be absent
+-- the statements in the member `else` of a `when`, none where it is absent, and the count after them
 abbrev pub else_of : List Host → Place → ℕ → Data → Result (StmtForms × ℕ) WalkFault
 else_of hosts at n d = block_if hosts (at_member at (codes "else")) n (Ok (NoStmts, n)) (get (codes "else") d)
 
--- a body, which may be absent
+-- the statements of a body at the place `at`; None, where it is absent, gives none
 abbrev pub body_if : List Host → Place → Option Data → Result StmtForms WalkFault
 body_if hosts at None = Ok NoStmts
 body_if hosts at (Some d) = block_of hosts at 0 d >>= (λ b. Ok b.0)
 
+-- the statements in the member `body` of a choice, none where it is absent
 unfoldable pub body_in : List Host → Place → Data → Result StmtForms WalkFault
 body_in hosts at d = body_if hosts (at_member at (codes "body")) (get (codes "body") d)

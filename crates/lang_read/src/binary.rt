@@ -6,7 +6,7 @@ ghost use Rattle.lang_read.specs.Operators.{binary_named, binary_form};
 use ledger_terms::Expr;
 use std::boxed::Box;
 
-/// An operator of two operands.
+/// An operator of two operands; `Both` and `Either` are `and` and `or`, `Cat` joins texts, `Union` and `Has` are of sets of parties.
 #[derive(Clone, Copy)]
 pub enum Binary {
     Add,
@@ -22,7 +22,7 @@ pub enum Binary {
     Has,
 }
 
-/// The operator of two operands that a word names.
+/// The operator of two operands that a word names, as `add`; None where it names none of these.
 #[tactic(auto, unfolding(crate::specs::Operators::binary_named))]
 pub fn binary_named(word: &str) -> Option<Binary>
     ensures { result ≡ binary_named word.now }
@@ -43,7 +43,7 @@ pub fn binary_named(word: &str) -> Option<Binary>
     }
 }
 
-/// The expression of an operator and its two operands.
+/// The expression that an operator makes of its two operands, in order.
 pub fn binary_expr(operator: Binary, first: Box<Expr>, second: Box<Expr>) -> Expr
     ensures { expr_form result ≡ binary_form operator (expr_form first.value) (expr_form second.value) }
 {

@@ -16,7 +16,7 @@ use serde_json::Value;
 use std::alloc::Global;
 use std::boxed::Box;
 
-/// What stands for absent observers.
+/// The expression that stands for absent observers, of a template or a choice: the empty set of parties.
 #[tactic(auto, using(ledger_terms::proofs::ExprRows::form_SetOf))]
 pub fn nobody(alloc: Global) -> Expr
     ensures { expr_form result ≡ nobody }
@@ -118,7 +118,8 @@ fn read_choice(
     })
 }
 
-/// The choices of a template, of which there are none where the member is absent.
+/// The choices in the member `choices` of the template that is `value`, none where that member is absent, or the first fault. `at` is the place of
+/// the template, and parties have to be those of the topology.
 #[tactic(auto, unfolding(crate::specs::Packages::choices_in))]
 pub fn choices_in(
     alloc: Global,

@@ -48,7 +48,8 @@ fn read_name_after(alloc: Global, items: &Vec<Value>, at: &Place) -> Result<Expr
     read_bound_name(alloc, &items[1], &at.item(1))
 }
 
-/// The expression that a value spells, where `depth` is 1 for a whole expression.
+/// The expression that a value spells at the place `at`, or the first fault. `depth` is how deep it stands, 1 for a whole expression and one more
+/// for its operands, and parties have to be those of the topology.
 #[cycle(expr)]
 pub fn read_expr(
     alloc: Global,
@@ -70,7 +71,8 @@ pub fn read_expr(
     }
 }
 
-/// The same expression in a box, which is narrow where others are read after it.
+/// The expression that a value spells, or the first fault, in a box: one word, so that a function that reads others after it keeps little on its
+/// stack. The arguments are those of `read_expr`.
 #[cycle(expr)]
 pub fn read_boxed(
     alloc: Global,

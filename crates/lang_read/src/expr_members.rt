@@ -1,4 +1,4 @@
-//! Expressions as members of objects.
+//! Expressions as members of objects. `value` is the object, `at` its place, `name` the member's name; parties have to be those of the topology.
 ghost use Rattle.std.specs.Prelude.{◌≡◌};
 ghost use Rattle.serde_json.specs.View.{view, items_view};
 ghost use Rattle.serde_json.specs.Find.{get};
@@ -15,7 +15,7 @@ use serde_json::Value;
 use std::alloc::Global;
 use std::boxed::Box;
 
-/// The expression in a member.
+/// The whole expression in the member `name` of an object, or the first fault: Shape at the object where that member is absent.
 #[tactic(auto, unfolding(crate::specs::Exprs::expr_in))]
 pub fn expr_in(
     alloc: Global,
@@ -30,7 +30,7 @@ pub fn expr_in(
     read_boxed(alloc, found, &at.member(name), 1, topology)
 }
 
-/// The expression in a member, or `default` where there is no such member.
+/// The whole expression in the member `name` of an object, or its first fault; `default` where there is no such member.
 #[tactic(auto, unfolding(crate::specs::Exprs::expr_or))]
 pub fn expr_or(
     alloc: Global,
@@ -82,7 +82,8 @@ fn read_exprs(
     Ok(exprs)
 }
 
-/// The list of expressions in a member, of any length.
+/// The whole expressions in the list that is the member `name` of an object, in order, a list of any length. The first fault is Shape where the
+/// member is absent or no list, else that of an expression.
 #[tactic(auto, unfolding(crate::specs::Exprs::exprs_in))]
 pub fn exprs_in(
     alloc: Global,

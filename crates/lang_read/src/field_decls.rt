@@ -30,7 +30,8 @@ fn read_decl(value: &Value, at: &Place) -> Result<FieldDecl, WalkFault>
     Ok(FieldDecl { name, kind })
 }
 
-/// The fields of a template.
+/// The declarations in the member `fields` of the template that is `value` at the place `at`: Shape where that member is absent or no list, Limit
+/// where there are too many.
 #[tactic(auto, unfolding(crate::specs::Packages::fields_in))]
 pub fn fields_in(alloc: Global, value: &Value, at: &Place) -> Result<FieldDeclList, WalkFault>
     ensures { Follows WalkFault.Memory result (fields_in at.now (view value.now)) }
@@ -39,7 +40,8 @@ pub fn fields_in(alloc: Global, value: &Value, at: &Place) -> Result<FieldDeclLi
     read_few(alloc, found, &at.member("fields"), FIELDS, read_decl)
 }
 
-/// The parameters of a choice, of which there are none where the member is absent.
+/// The declarations in the member `params` of the choice that is `value` at the place `at`, none where that member is absent; Limit where there are
+/// too many.
 #[tactic(auto, unfolding(crate::specs::Packages::params_in))]
 pub fn params_in(alloc: Global, value: &Value, at: &Place) -> Result<FieldDeclList, WalkFault>
     ensures { Follows WalkFault.Memory result (params_in at.now (view value.now)) }

@@ -24,7 +24,7 @@ fn kind_named(word: &str) -> Option<Kind>
     }
 }
 
-/// The kind that a value names.
+/// The kind that the value at the place `at` names, as `Int`; Shape where it is no text or names none.
 #[tactic(auto, unfolding(crate::specs::Kinds::kind_of))]
 pub fn read_kind(value: &Value, at: &Place) -> Result<Kind, WalkFault>
     ensures { Follows WalkFault.Memory result (kind_of at.now (view value.now)) }

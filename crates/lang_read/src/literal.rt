@@ -12,7 +12,7 @@ use ledger_terms::{Topology, Value as Term};
 use serde_json::{Number, Value};
 use std::alloc::Global;
 
-/// Whether the value has the form `{"party": ..}`.
+/// Whether the value has the form `{"party": ..}`, an object with that member alone.
 #[tactic(auto, unfolding(crate::specs::Literals::is_party_form))]
 pub fn is_party_form(value: &Value) -> bool
     ensures { result ≡ is_party_form (view value.now) }
@@ -20,7 +20,7 @@ pub fn is_party_form(value: &Value) -> bool
     fits(value, &["party"], &[])
 }
 
-/// Whether the value has the form `{"parties": ..}`.
+/// Whether the value has the form `{"parties": ..}`, an object with that member alone.
 #[tactic(auto, unfolding(crate::specs::Literals::is_parties_form))]
 pub fn is_parties_form(value: &Value) -> bool
     ensures { result ≡ is_parties_form (view value.now) }
@@ -28,7 +28,8 @@ pub fn is_parties_form(value: &Value) -> bool
     fits(value, &["parties"], &[])
 }
 
-/// The party of a value `{"party": ..}`.
+/// The party of the value `{"party": name}` at the place `at`: Shape where it has no such member or that is no name, Unknown where nobody of the
+/// topology confirms for the party.
 #[tactic(auto, unfolding(crate::specs::Literals::party_value_of))]
 pub fn read_party_value(
     alloc: Global,
@@ -43,7 +44,8 @@ pub fn read_party_value(
     Ok(Term::Party(party))
 }
 
-/// The set of a value `{"parties": ..}`.
+/// The set of parties of the value `{"parties": [name, ..]}` at the place `at`: Shape where it has no such member or that is no list of names,
+/// Unknown at a name of which nobody of the topology confirms for the party.
 #[tactic(auto, unfolding(crate::specs::Literals::parties_value_of))]
 pub fn read_parties_value(
     alloc: Global,
@@ -110,7 +112,8 @@ fn plain(value: Term, at: &Place, depth: u64) -> Result<Term, WalkFault>
     Ok(value)
 }
 
-/// The value that is an expression at a depth, any but a contract.
+/// The value that a JSON value at the place `at` spells as an expression, of any kind but Contract, or the first fault. `depth` is how deep it
+/// stands, 1 for a whole expression; too deep is Limit.
 #[tactic(auto, unfolding(crate::specs::Literals::literal_of))]
 pub fn read_literal(
     alloc: Global,

@@ -37,7 +37,7 @@ fn operator_named(word: &str) -> Option<Operator>
 }
 
 impl Operator {
-    /// Whether so many items may stand behind the operator.
+    /// Whether so many items may stand behind the operator in a list that is an expression.
     pub fn takes(self, operands: usize) -> bool
         ensures { result ≡ takes self operands }
     {
@@ -51,7 +51,8 @@ impl Operator {
     }
 }
 
-/// The operator that stands before so many items; `at` is the place of the list.
+/// The operator that `value`, the first item of the list at the place `at`, names, where `operands` is the number of items behind it; Shape where
+/// it is no text, names no operator, or that operator has another number of operands.
 #[tactic(auto, unfolding(crate::specs::Operators::operator_of))]
 pub fn read_operator(value: &Value, at: &Place, operands: usize) -> Result<Operator, WalkFault>
     ensures { Follows WalkFault.Memory result (operator_of at.now operands (view value.now)) }

@@ -18,7 +18,7 @@ fn has_package_members(value: &Value) -> bool
 }
 
 /// The package that a JSON value spells, or its first fault. `at` is the place of the value, from which the places of faults
-/// go on. Parties are those of the topology. `before` is the number of templates in the packages before it, which count to
+/// go on. Parties have to be those of the topology. `before` is the number of templates in the packages before it, which count to
 /// the limit of templates in all.
 #[tactic(auto, unfolding(crate::specs::Packages::package_of))]
 pub fn read_package(

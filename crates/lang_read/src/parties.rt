@@ -9,14 +9,15 @@ use ledger_terms::{Host, Name, PartySet, Text, Topology};
 use serde_json::Value;
 use std::alloc::Global;
 
-/// Whether one of the participants hosts the party.
+/// Whether one of the participants confirms for the party, which makes it a party of the topology; to observe it isn't enough.
 pub fn is_hosted(hosts: &[Host], party: Name) -> bool
     ensures { result ≡ is_hosted hosts.now party }
 {
     hosts.iter().any(|host| host.parties.contains(party))
 }
 
-/// The name of a party that a participant of the topology hosts.
+/// The name of a party of the topology that the value at the place `at` spells: Shape where it is no name, Unknown where no participant confirms
+/// for that party.
 #[tactic(auto, unfolding(crate::specs::Parties::party_of))]
 pub fn read_party(
     alloc: Global,
@@ -36,7 +37,8 @@ pub fn read_party(
     Ok(name)
 }
 
-/// The set of the parties of a list, which may repeat a name.
+/// The set of the parties of the topology whose names the list at the place `at` spells; a name may stand there more than once. Shape where it is
+/// no list of names, Unknown at the first name of no such party.
 #[tactic(auto, unfolding(crate::specs::Parties::parties_of))]
 pub fn read_parties(
     alloc: Global,

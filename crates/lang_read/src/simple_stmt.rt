@@ -125,7 +125,8 @@ fn read_fetch(
     })
 }
 
-/// A statement other than a `when`.
+/// The statement, other than a `when`, that the value at the place `at` spells, an object whose one member says which it is; or the first fault,
+/// Shape where it is none of these. Parties have to be those of the topology.
 #[tactic(auto, unfolding(crate::specs::Stmts::simple_of))]
 pub fn read_simple(
     alloc: Global,

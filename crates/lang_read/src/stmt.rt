@@ -132,7 +132,8 @@ fn read_stmts(
     Ok((stmts, count))
 }
 
-/// The statements in the member `body`, of which there are none where it is absent.
+/// The statements in the member `body` of the choice that is `value` at the place `at`, none where that member is absent, or the first fault.
+/// Parties have to be those of the topology.
 #[tactic(auto, unfolding(crate::specs::Stmts::body_in))]
 pub fn body_in(
     alloc: Global,

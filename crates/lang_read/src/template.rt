@@ -105,7 +105,8 @@ fn read_templates(
     )
 }
 
-/// The templates of a package, where `before` stand in the packages before it.
+/// The templates in the member `templates` of the package that is `value` at the place `at`, or the first fault. The packages before it have
+/// `before` templates, which count to the limit of templates in all; parties have to be those of the topology.
 #[tactic(auto, unfolding(crate::specs::Packages::templates_in))]
 pub fn templates_in(
     alloc: Global,

@@ -7,6 +7,7 @@ use Rattle.ledger_terms.specs.declared.expr.Expr.TheVariants.{Literal as Literal
 use Rattle.ledger_terms.specs.declared.expr.Expr.TheVariants.{Equal', Both', Either', Negate', Cond', Cat', SetOf', Union', Has'}
 
 abbrev mutual
+  -- an expression of the code as plain data; the arguments p, q and r of an arm say where in memory the operands lie
   pub expr_form : Expr → ExprForm
   expr_form (LiteralExpr v) = Literal v
   expr_form (VarExpr x) = Var x
@@ -25,15 +26,16 @@ abbrev mutual
   expr_form (Union' p a q b) = Union (expr_form a) (expr_form b)
   expr_form (Has' p a q b) = Has (expr_form a) (expr_form b)
 
+  -- the n expressions of a set of parties, as the code holds them, as plain data in their order
   pub row_form : {n : _} → Row_of-Expr n → ExprForms
   row_form end_of-Expr = NoExprs
   row_form (more_of-Expr e rest) = MoreExprs (expr_form e) (row_form rest)
 
--- the same of a slice
+-- a list of expressions of the code as plain data, in its order
 abbrev pub exprs_of : List Expr → ExprForms
 exprs_of [] = NoExprs
 exprs_of (e ∷ es) = MoreExprs (expr_form e) (exprs_of es)
 
--- the form of a list
+-- the same under another name: the plain data of the code's `ExprList`
 abbrev pub list_form : List Expr → ExprForms
 list_form = exprs_of

@@ -4,7 +4,8 @@ use Rattle.ledger_terms.specs.declared.value.Value.{Value}
 use Rattle.ledger_terms.specs.declared.template_name.TemplateName.{TemplateName}
 
 mutual
-  -- an expression
+  -- An expression: a literal, a bound name, sum, difference and product, less, at most and equal, and, or, not, if, texts joined, the set of the
+  -- parties that expressions give, the union of two sets, and whether a set (first) has a party.
   pub data ExprForm : Type 0 where
     Literal : Value → ExprForm
     Var : (name : List ℕ) → ExprForm
@@ -23,13 +24,14 @@ mutual
     Union : ExprForm → ExprForm → ExprForm
     Has : ExprForm → ExprForm → ExprForm
 
-  -- expressions, in order
+  -- a list of expressions, in order
   pub data ExprForms : Type 0 where
     NoExprs : ExprForms
     MoreExprs : (first : ExprForm) (others : ExprForms) → ExprForms
 
 mutual
-  -- a statement of a choice's body
+  -- A statement of a choice's body: it binds a value, asserts a condition, creates, exercises or fetches a contract and binds what comes of it, or
+  -- does the one or the other list of statements, as its test says.
   pub data StmtForm : Type 0 where
     Bind : (name : List ℕ) (value : ExprForm) → StmtForm
     Assert : ExprForm → StmtForm
@@ -38,7 +40,7 @@ mutual
     Fetch : (bind : List ℕ) (template : TemplateName) (contract : ExprForm) → StmtForm
     When : (test : ExprForm) (first second : StmtForms) → StmtForm
 
-  -- statements, in order
+  -- a list of statements, in order
   pub data StmtForms : Type 0 where
     NoStmts : StmtForms
     MoreStmts : (first : StmtForm) (others : StmtForms) → StmtForms

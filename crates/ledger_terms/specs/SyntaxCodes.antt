@@ -8,6 +8,8 @@ use Rattle.ledger_terms.specs.Syntax.{ExprForm, ExprForms, Literal, Var, Add, Su
 use Rattle.ledger_terms.specs.Syntax.{Cat, SetOf, Union, Has, NoExprs, MoreExprs, StmtForm, StmtForms, Bind, Assert, Create, Exercise}
 use Rattle.ledger_terms.specs.Syntax.{Fetch, When, NoStmts, MoreStmts}
 
+-- A token of an expression's spelling: a literal or a name with what it holds, or an operator, whose operands stand before it. Of a list of
+-- expressions the end is NoExprsToken, and each MoreExprsToken puts one expression in front.
 pub data ExprToken : Type 0 where
   LiteralToken : Value → ExprToken
   VarToken : List ℕ → ExprToken
@@ -28,10 +30,12 @@ pub data ExprToken : Type 0 where
   NoExprsToken : ExprToken
   MoreExprsToken : ExprToken
 
+-- the code of a token, which `coded_exprs` builds on
 pub coded_token : Coded ExprToken
 coded_token = hlevel codes
 
 abbrev mutual
+  -- the tokens of an expression, in front of the tokens of the second argument
   pub expr_tokens : ExprForm → List ExprToken → List ExprToken
   expr_tokens (Literal v) after = LiteralToken v ∷ after
   expr_tokens (Var x) after = VarToken x ∷ after
@@ -50,11 +54,13 @@ abbrev mutual
   expr_tokens (Union a b) after = expr_tokens a (expr_tokens b (UnionToken ∷ after))
   expr_tokens (Has a b) after = expr_tokens a (expr_tokens b (HasToken ∷ after))
 
+  -- the tokens of a list of expressions, in front of the tokens of the second argument
   pub exprs_tokens : ExprForms → List ExprToken → List ExprToken
   exprs_tokens NoExprs after = NoExprsToken ∷ after
   exprs_tokens (MoreExprs e es) after = expr_tokens e (exprs_tokens es (MoreExprsToken ∷ after))
 
--- what tokens build over expressions and lists that stand there
+-- The lists of expressions that tokens build, read from the left. The second argument is the stack of the expressions that were read so far, and the
+-- third that of the lists, both the last one first. Where an operator's operands lack, the stack of lists as it is.
 abbrev pub built : List ExprToken → List ExprForm → List ExprForms → List ExprForms
 built [] s t = t
 built (LiteralToken v ∷ after) s t = built after (Literal v ∷ s) t
@@ -92,6 +98,7 @@ built (MoreExprsToken ∷ after) (e ∷ s) (es ∷ t) = built after s (MoreExprs
 built (MoreExprsToken ∷ after) s t = t
 
 mutual
+  -- what is built of an expression's tokens is the expression, on top of the stack
   pub built-expr : (e : ExprForm) (after : List ExprToken) (s : List ExprForm) (t : List ExprForms) → built (expr_tokens e after) s t ≡ built after (e ∷ s) t
   built-expr (Literal v) after s t = refl
   built-expr (Var x) after s t = refl
@@ -110,27 +117,34 @@ mutual
   built-expr (Union a b) after s t = built-expr a _ s t ∙ built-expr b (UnionToken ∷ after) (a ∷ s) t
   built-expr (Has a b) after s t = built-expr a _ s t ∙ built-expr b (HasToken ∷ after) (a ∷ s) t
 
+  -- what is built of the tokens of a list of expressions is the list, on top of the stack of lists
   pub built-exprs : (es : ExprForms) (after : List ExprToken) (s : List ExprForm) (t : List ExprForms)
       → built (exprs_tokens es after) s t ≡ built after s (es ∷ t)
   built-exprs NoExprs after s t = refl
   built-exprs (MoreExprs e es) after s t = built-expr e _ s t ∙ built-exprs es (MoreExprsToken ∷ after) (e ∷ s) t
 
+-- the top of a stack of lists of expressions, and the empty list where the stack is empty
 abbrev pub first_or_none : List ExprForms → ExprForms
 first_or_none [] = NoExprs
 first_or_none (es ∷ t) = es
 
+-- the code of lists of expressions: that of their tokens, from which `built` makes them again
 abbrev pub coded_exprs : Coded ExprForms
 coded_exprs =
     code_by (List ExprToken) (coded_list coded_token) (λ es. exprs_tokens es []) (λ l. first_or_none (built l [] []))
     (λ es. ap first_or_none (built-exprs es [] [] []))
 
+-- the first expression of a list; of the empty list an empty set of parties, which no code asks for
 abbrev pub first_expr : ExprForms → ExprForm
 first_expr NoExprs = SetOf NoExprs
 first_expr (MoreExprs e es) = e
 
+-- the code of an expression: that of the list of it alone
 abbrev pub coded_expr : Coded ExprForm
 coded_expr = code_by ExprForms coded_exprs (λ e. MoreExprs e NoExprs) first_expr (λ e. refl)
 
+-- A token of a statement's spelling: a statement with what it holds, or a When, whose two lists of statements stand before it. Of a list of
+-- statements the end is NoStmtsToken, and each MoreStmtsToken puts one statement in front.
 pub data StmtToken : Type 0 where
   BindToken : (name : List ℕ) (value : ExprForm) → StmtToken
   AssertToken : ExprForm → StmtToken
@@ -141,10 +155,12 @@ pub data StmtToken : Type 0 where
   NoStmtsToken : StmtToken
   MoreStmtsToken : StmtToken
 
+-- the code of a token of statements, which `coded_stmts` builds on
 pub coded_stmt_token : Coded StmtToken
 coded_stmt_token = hlevel (codes, coded_expr, coded_exprs)
 
 abbrev mutual
+  -- the tokens of a statement, in front of the tokens of the second argument
   pub stmt_tokens : StmtForm → List StmtToken → List StmtToken
   stmt_tokens (Bind x e) after = BindToken x e ∷ after
   stmt_tokens (Assert e) after = AssertToken e ∷ after
@@ -153,10 +169,13 @@ abbrev mutual
   stmt_tokens (Fetch x t e) after = FetchToken x t e ∷ after
   stmt_tokens (When e first second) after = stmts_tokens first (stmts_tokens second (WhenToken e ∷ after))
 
+  -- the tokens of a list of statements, in front of the tokens of the second argument
   pub stmts_tokens : StmtForms → List StmtToken → List StmtToken
   stmts_tokens NoStmts after = NoStmtsToken ∷ after
   stmts_tokens (MoreStmts s ss) after = stmt_tokens s (stmts_tokens ss (MoreStmtsToken ∷ after))
 
+-- The lists of statements that tokens build, read from the left. The second argument is the stack of the statements that were read so far, and the
+-- third that of the lists, both the last one first. Where a token's parts lack, the stack of lists as it is.
 abbrev pub built_stmts : List StmtToken → List StmtForm → List StmtForms → List StmtForms
 built_stmts [] s t = t
 built_stmts (BindToken x e ∷ after) s t = built_stmts after (Bind x e ∷ s) t
@@ -171,6 +190,7 @@ built_stmts (MoreStmtsToken ∷ after) (a ∷ s) (more ∷ t) = built_stmts afte
 built_stmts (MoreStmtsToken ∷ after) s t = t
 
 mutual
+  -- what is built of a statement's tokens is the statement, on top of the stack
   pub built_stmts-stmt : (a : StmtForm) (after : List StmtToken) (s : List StmtForm) (t : List StmtForms)
       → built_stmts (stmt_tokens a after) s t ≡ built_stmts after (a ∷ s) t
   built_stmts-stmt (Bind x e) after s t = refl
@@ -181,16 +201,19 @@ mutual
   built_stmts-stmt (When e first second) after s t =
       built_stmts-stmts first _ s t ∙ built_stmts-stmts second (WhenToken e ∷ after) s (first ∷ t)
 
+  -- what is built of the tokens of a list of statements is the list, on top of the stack of lists
   pub built_stmts-stmts : (a : StmtForms) (after : List StmtToken) (s : List StmtForm) (t : List StmtForms)
       → built_stmts (stmts_tokens a after) s t ≡ built_stmts after s (a ∷ t)
   built_stmts-stmts NoStmts after s t = refl
   built_stmts-stmts (MoreStmts a more) after s t =
       built_stmts-stmt a _ s t ∙ built_stmts-stmts more (MoreStmtsToken ∷ after) (a ∷ s) t
 
+-- the top of a stack of lists of statements, and the empty list where the stack is empty
 abbrev pub first_stmts : List StmtForms → StmtForms
 first_stmts [] = NoStmts
 first_stmts (a ∷ t) = a
 
+-- the code of lists of statements: that of their tokens, from which `built_stmts` makes them again
 abbrev pub coded_stmts : Coded StmtForms
 coded_stmts =
     code_by (List StmtToken) (coded_list coded_stmt_token) (λ a. stmts_tokens a []) (λ l. first_stmts (built_stmts l [] []))

@@ -8,31 +8,32 @@ use Rattle.ledger_terms.specs.declared.limits.TheConstants.{MOST_PARTICIPANTS, M
 use Rattle.ledger_terms.specs.declared.host.Host.{Host}
 use Rattle.ledger_terms.specs.declared.topology.Topology.{Topology}
 
--- two participants have names of their own and confirm for no party both
+-- Two participants have different names, and there is no party for which both confirm.
 pub record AreApart (a b : Host) : Type 0 where
   pub names : a.name ≢ b.name
   pub parties : meets_set a.parties b.parties ≡ false
 
--- a time in microseconds from a tenth of a second to some eleven days
+-- A timeout or a skew, in microseconds, is in its range: from a tenth of a second to some eleven days.
 pub record IsWait (time : ℕ) : Type 0 where
   pub least : LEAST_WAIT ≤ time
   pub most : time ≤ MOST_WAIT
 
--- a host has a name, as have its parties, which rise
+-- A host's name and the parties that it confirms for have the form of names, and these parties rise strictly by their bytes.
 pub record HasNames (host : Host) : Type 0 where
   pub own : IsName host.name
   pub parties : All IsName host.parties
   pub rising : IsRising host.parties
 
--- what a host only observes rises, and are parties for which another host confirms
+-- The parties that a host of a topology only observes are names that rise strictly, it confirms for none of them, and for each of them some host of
+-- the list confirms.
 pub record IsObserving (hosts : List Host) (host : Host) : Type 0 where
   pub names : All IsName host.observing
   pub rising : IsRising host.observing
   pub apart : meets_set host.parties host.observing ≡ false
   pub confirmed : All (λ (party : List ℕ). list_any (lists_party party) hosts ≡ true) host.observing
 
--- 1 to 8 participants with names of their own, which confirm for at most 128 parties, each party at one participant, and observe some
--- of the others; and the times in their ranges
+-- A synchroniser can be made for this topology: it has 1 to 8 participants with different names, which confirm for at most 128 parties, each party at
+-- one participant, and may observe parties of others; and its times are in their ranges.
 pub record IsValid (topology : Topology) : Type 0 where
   pub some_host : 1 ≤ length topology.hosts
   pub few_hosts : length topology.hosts ≤ MOST_PARTICIPANTS

@@ -47,7 +47,7 @@ impl Action {
         }
     }
 
-    /// What the contract says that the action is on.
+    /// The instance of the contract that the action is on: its template and the values of its fields.
     pub fn instance(&self) -> &Instance
         ensures { result.now ≡ instance_of self.now }
     {

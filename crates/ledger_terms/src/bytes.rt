@@ -29,7 +29,7 @@ impl Bytes {
         }
     }
 
-    /// No bytes, with room for so many.
+    /// No bytes, with room for `count` of them.
     pub fn with_room(alloc: Global, count: usize) -> Result<Bytes, AllocError>
         ensures { IfOk result (λ b. b ≡ []) }
     {
@@ -38,14 +38,14 @@ impl Bytes {
         Ok(Bytes { bytes })
     }
 
-    /// The bytes of a vector, without memory.
+    /// The bytes of a vector, which is moved and not copied.
     pub fn of(bytes: Vec<u8>) -> Bytes
         ensures { result ≡ bytes.items }
     {
         Bytes { bytes }
     }
 
-    /// The vector of the bytes, without memory.
+    /// The vector of the bytes, which is moved and not copied.
     pub fn into_vec(self) -> Vec<u8>
         ensures { result.items ≡ self }
     {
@@ -53,7 +53,7 @@ impl Bytes {
         bytes
     }
 
-    /// Whether there are none.
+    /// Whether there are no bytes.
     pub fn is_empty(&self) -> bool
         ensures { IsTrue result ↔ (self.now ≡ []) }
     {

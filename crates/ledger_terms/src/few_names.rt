@@ -92,7 +92,7 @@ impl FewNames {
         names_in(&self.held)
     }
 
-    /// Puts a name at a place.
+    /// Puts a name at the index `at`, and those from there on one further.
     pub fn insert(&mut self, at: usize, name: Name) -> Result<(), AllocError>
         requires { at ≤ length self.old }
         ensures ok { OnOk result (self.new ≡ insert self.old at name) }

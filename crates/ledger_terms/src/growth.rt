@@ -3,7 +3,8 @@ ghost use Rattle.std.specs.Prelude.{◌≡◌, ◌++◌, ◌∷◌, [], OnOk, On
 
 use std::alloc::AllocError;
 
-/// Makes room for one more item: for one at first, since most lists of a ledger have no more, and then for twice as many.
+/// Makes room for one more item of a vector: for one at first, since most lists of a ledger have no more, and then for twice as many. An error says
+/// that there is no memory, and leaves the vector as it was.
 pub fn make_room<T>(items: &mut Vec<T>) -> Result<(), AllocError>
     ensures { items.new.items ≡ items.old.items }
 {

@@ -14,7 +14,7 @@ pub struct Instance {
 }
 
 impl Instance {
-    /// A contract of a template with these values of its fields.
+    /// The instance of a template with these values of its fields, in the order in which the template declares them.
     pub fn of(
         alloc: Global,
         template: TemplateName,

@@ -5,13 +5,13 @@ ghost use Rattle.std.specs.Cmp.Lexicographic.{pointwise};
 use crate::hash::Hash;
 use crate::known::{Known, KnownList};
 
-/// The active contracts of a participant, in order of creation. No look-up takes memory.
+/// Where contracts are looked up: the active contracts of a participant, in order of creation. No look-up takes memory.
 pub trait KnownContracts {
     ghost use Rattle.ledger_terms.specs.declared.known.Known.{Known};
 
     ghost rows: { Self → List Known };
 
-    /// The first contract with that id, and none exactly where there is none.
+    /// The first contract with that id, and None exactly where there is none.
     fn find(&self, id: &Hash) -> Option<&Known>
         ensures { option_copied result ≡ find (λ k. pointwise ◌==◌ k.id id.now) (rows self.now) };
 

@@ -87,7 +87,7 @@ impl PartySet {
         }
     }
 
-    /// The set of the names, which may repeat.
+    /// The set of the names, which may repeat and stand in any order.
     pub fn of(alloc: Global, names: &NameList) -> Result<PartySet, AllocError>
         ensures set { IfOk result (λ s. s ≡ set_of names.now) }
         ensures members { IfOk result (λ s. (party : List ℕ) → has_party s party ≡ has_party names.now party) }
@@ -101,7 +101,7 @@ impl PartySet {
         Ok(set)
     }
 
-    /// Puts a party into the set.
+    /// Puts a party into the set, which stays as it is where it has the party.
     pub fn insert(&mut self, party: Name) -> Result<(), AllocError>
         ensures ok { OnOk result (self.new ≡ with_party party self.old) }
         ensures err { OnErr result (self.new ≡ self.old) }
@@ -110,7 +110,8 @@ impl PartySet {
         Ok(())
     }
 
-    /// Puts a party at the end where it stands above the others, and says whether it does.
+    /// Puts the party at the end and says true, where it stands above all others by its bytes; else the set stays as it is, and it says false. What
+    /// reads a set's bytes tells by it whether they rise.
     pub fn push_above(&mut self, party: Name) -> Result<bool, AllocError>
         ensures put { IfOk result (λ above. (above ≡ stands_above self.old party) × (self.new ≡ cond above (self.old ++ party ∷ []) self.old)) }
         ensures err { OnErr result (self.new ≡ self.old) }
@@ -122,7 +123,7 @@ impl PartySet {
         Ok(true)
     }
 
-    /// The parties of either set.
+    /// The set of the parties that are in either of the two sets.
     pub fn union(&self, other: &PartySet) -> Result<PartySet, AllocError>
         ensures set { IfOk result (λ s. s ≡ with_parties other.now self.now) }
         ensures members { IfOk result (λ s. (party : List ℕ) → has_party s party ≡ (has_party other.now party || has_party self.now party)) }
@@ -141,7 +142,7 @@ impl PartySet {
         self.names.as_slice().len()
     }
 
-    /// Whether there are none.
+    /// Whether there are no parties.
     pub fn is_empty(&self) -> bool
         ensures { IsTrue result ↔ (self.now ≡ []) }
     {

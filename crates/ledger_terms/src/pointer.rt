@@ -52,7 +52,7 @@ fn push_token(text: &mut Text, name: &str) -> Result<(), AllocError>
 }
 
 impl Pointer {
-    /// The place of the whole value.
+    /// The pointer to the whole value, which is the empty text.
     pub fn root(alloc: Global) -> Pointer
         ensures { result ≡ [] }
     {
@@ -61,7 +61,7 @@ impl Pointer {
         }
     }
 
-    /// The place of a member of the object at this place.
+    /// The pointer to the member of this name of the object to which this pointer leads.
     #[tactic(auto, unfolding(crate::specs::Pointers::at_member))]
     pub fn member(&self, name: &str) -> Result<Pointer, AllocError>
         ensures { IfOk result (λ p. p ≡ at_member self.now name.now) }
@@ -72,7 +72,7 @@ impl Pointer {
         Ok(Pointer { text })
     }
 
-    /// The place of an item of the list at this place.
+    /// The pointer to the item at the index, counted from 0, of the list to which this pointer leads.
     #[tactic(auto, unfolding(crate::specs::Pointers::at_item))]
     pub fn item(&self, index: usize) -> Result<Pointer, AllocError>
         ensures { IfOk result (λ p. p ≡ at_item self.now index) }

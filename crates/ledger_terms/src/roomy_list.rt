@@ -23,7 +23,7 @@ impl<T> Model for RoomyList<T> {
 }
 
 impl<T> RoomyList<T> {
-    /// The empty list, without memory.
+    /// The empty list, without room for any item; it takes no memory.
     pub fn new(alloc: Global) -> RoomyList<T>
         ensures { result.items ≡ [] }
     {
@@ -32,7 +32,7 @@ impl<T> RoomyList<T> {
         }
     }
 
-    /// The list of a list's items, without memory.
+    /// The list with a list's items, which are moved and not copied.
     pub fn of(list: ListOf<T>) -> RoomyList<T>
         ensures { result.items ≡ list }
     {
@@ -41,7 +41,7 @@ impl<T> RoomyList<T> {
         }
     }
 
-    /// The list of the items alone, without memory.
+    /// The items as a plain list; they are moved and not copied.
     pub fn into_list(self) -> ListOf<T>
         ensures { result ≡ self.items }
     {
@@ -49,7 +49,7 @@ impl<T> RoomyList<T> {
         ListOf::of(items)
     }
 
-    /// The allocator of the list, for what is made beside it.
+    /// The allocator of the list, with which a caller makes other values beside it.
     pub fn allocator(&self) -> &Global {
         self.items.allocator()
     }
@@ -68,7 +68,7 @@ impl<T> RoomyList<T> {
         self.items.capacity() - self.items.len()
     }
 
-    /// The item at `at`, where there is one.
+    /// The item at the index `at`, counted from 0, and None where the list is shorter.
     pub fn get(&self, at: usize) -> Option<&T>
         ensures { option_copied result ≡ slice_get self.now.items at }
     {

@@ -27,7 +27,7 @@ impl<T> Model for SharedList<T> {
 }
 
 impl<T> SharedList<T> {
-    /// The list, in a place of its own.
+    /// The list in memory of its own, which all clones of the result share.
     pub fn new(alloc: Global, list: ListOf<T>) -> Result<SharedList<T>, AllocError>
     where
         T: Drop,
@@ -37,7 +37,7 @@ impl<T> SharedList<T> {
         Ok(SharedList { list })
     }
 
-    /// The list, to look at.
+    /// The list itself, to look at.
     pub fn as_list(&self) -> &ListOf<T>
         ensures { result.now ≡ self.now }
     {
@@ -51,7 +51,7 @@ impl<T> SharedList<T> {
         self.as_list().as_slice()
     }
 
-    /// The item at `at`, where there is one.
+    /// The item at the index `at`, counted from 0, and None where the list is shorter.
     pub fn get(&self, at: usize) -> Option<&T>
         ensures { option_copied result ≡ slice_get self.now at }
     {

@@ -17,7 +17,7 @@ pub struct Topology {
 }
 
 impl Topology {
-    /// The participant that confirms for the party: the first one with it among its `parties`.
+    /// The participant that confirms for the party: the first one with it among its `parties`. None where nobody does.
     pub fn host_of(&self, party: Name) -> Option<ParticipantId>
         requires { length self.now.hosts ≤ 256 }
         ensures { result ≡ host_of self.now.hosts party }
@@ -32,14 +32,14 @@ impl Topology {
         None
     }
 
-    /// The participant at an index, where there is one.
+    /// The participant at an index, and None where there is none.
     pub fn host(&self, at: ParticipantId) -> Option<&Host>
         ensures { option_copied result ≡ slice_get self.now.hosts at }
     {
         self.hosts.get(at.0 as usize)
     }
 
-    /// Whether a participant hosts the party, to confirm for it or only to observe.
+    /// Whether the participant at an index hosts the party, to confirm for it or only to observe. False where there is no such participant.
     pub fn hosts(&self, at: ParticipantId, party: Name) -> bool
         ensures { result ≡ hosts_at self.now.hosts at party }
     {
@@ -49,7 +49,7 @@ impl Topology {
         }
     }
 
-    /// Whether a participant hosts one of the parties.
+    /// Whether the participant at an index hosts one of the parties, to confirm for it or only to observe. False where there is no such participant.
     pub fn hosts_any(&self, at: ParticipantId, parties: &PartySet) -> bool
         ensures { result ≡ list_any (hosts_at self.now.hosts at) parties.now }
     {
@@ -59,7 +59,7 @@ impl Topology {
             .any(|party| self.hosts(at, *party))
     }
 
-    /// Whether a participant confirms for the party.
+    /// Whether the participant at an index confirms for the party. False where there is no such participant.
     pub fn confirms(&self, at: ParticipantId, party: Name) -> bool
         ensures { result ≡ confirms_at self.now.hosts at party }
     {
@@ -69,7 +69,7 @@ impl Topology {
         }
     }
 
-    /// Whether a participant confirms for one of the parties.
+    /// Whether the participant at an index confirms for one of the parties. False where there is no such participant.
     pub fn confirms_any(&self, at: ParticipantId, parties: &PartySet) -> bool
         ensures { result ≡ list_any (confirms_at self.now.hosts at) parties.now }
     {

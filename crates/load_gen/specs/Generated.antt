@@ -6,11 +6,12 @@ use Rattle.script_read.specs.declared.script.Script.{Script}
 use Rattle.load_gen.specs.Scripts.{hosts, params, packages}
 use Rattle.load_gen.specs.Submissions.{debts, transfers}
 
--- a round in which nobody restarts or is paused, no verdict is held back, the time isn't moved, and no raw request is handed in
+-- A round with these submissions, in which nobody restarts or is paused, no verdict is held back, the time isn't moved, and no raw request is handed
+-- in.
 abbrev pub round_of : List Submission → Round
 round_of submits = record { advance = 0; paused = []; hold_verdicts = false; submits = submits; raws = []; restarts = [] }
 
--- the script of a seed and a count
+-- The script of a seed, from which its amounts come, and of `count` debts, which one round creates and the next one transfers. It has no rules.
 abbrev pub generated : ℕ → ℕ → Script
 generated seed count =
     record {

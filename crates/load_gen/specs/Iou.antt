@@ -9,20 +9,24 @@ use Rattle.ledger_terms.specs.Syntax.{StmtForm, StmtForms, Create, Exercise, Whe
 use Rattle.ledger_terms.specs.Packages.{PackageForm, TemplateForm, ChoiceForm}
 use Rattle.lang_eval.specs.Builtin.{one_party, declared}
 
+-- the name of the template of debts
 abbrev pub iou_template_name : TemplateName
 iou_template_name = record { «package» = codes "Iou"; name = codes "Iou" }
 
+-- the name of the template whose choice calls itself
 abbrev pub loop_template_name : TemplateName
 loop_template_name = record { «package» = codes "Iou"; name = codes "Loop" }
 
+-- the name of the choice by which a debt gets a new owner
 abbrev pub transfer_name : List ℕ
 transfer_name = codes "Transfer"
 
--- whether the variable with this name is above 0
+-- the expression that the variable with this name is above 0
 abbrev pub is_positive : List ℕ → ExprForm
 is_positive name = Less (Literal (IntValue (pos 0))) (Var name)
 
--- a choice with one parameter, without observers, that gives nothing; `controller` is the variable of who controls it
+-- A choice with one parameter, without observers, whose result is Unit. Its arguments are its name, whether it consumes, its parameter, the name of
+-- the variable that holds its controller, and its body.
 abbrev pub choice_with : List ℕ → Bool → FieldDecl → List ℕ → StmtForms → ChoiceForm
 choice_with name consuming param controller body =
     record {
@@ -36,10 +40,11 @@ choice_with name consuming param controller body =
       result = Literal UnitValue;
     }
 
+-- a body of one statement
 abbrev pub only : StmtForm → StmtForms
 only stmt = MoreStmts stmt NoStmts
 
--- the Create of a debt in place of this one, with this owner and this amount
+-- The statement that creates a debt of the same issuer, with this owner and this amount.
 abbrev pub new_iou : ExprForm → ExprForm → StmtForm
 new_iou owner amount = Create (codes "x") iou_template_name (MoreExprs (Var (codes "this.issuer")) (MoreExprs owner (MoreExprs amount NoExprs)))
 
@@ -55,10 +60,11 @@ grow_form =
     choice_with (codes "Grow") true (declared (codes "by") IntKind) (codes "this.issuer")
     (only (new_iou (Var (codes "this.owner")) (Add (Var (codes "this.amount")) (Var (codes "arg.by")))))
 
+-- the fields of a debt: issuer, owner and amount
 abbrev pub iou_fields : List FieldDecl
 iou_fields = declared (codes "issuer") PartyKind ∷ declared (codes "owner") PartyKind ∷ declared (codes "amount") IntKind ∷ []
 
--- a debt of an issuer, who signs it, to an owner, who observes it
+-- The template of a debt of an issuer, who signs it, to an owner, who observes it.
 abbrev pub iou_form : TemplateForm
 iou_form =
     record {
@@ -70,21 +76,22 @@ iou_form =
       choices = transfer_form ∷ grow_form ∷ [];
     }
 
--- the exercise of the choice Down once more, with a number that is less by one
+-- The statement that exercises the choice Down once more, with a number that is less by one.
 abbrev pub again : StmtForm
 again =
     Exercise (codes "y") loop_template_name (Var (codes "self")) (codes "Down")
     (MoreExprs (Sub (Var (codes "arg.n")) (Literal (IntValue (pos 1)))) NoExprs)
 
+-- The body of the choice Down: where its number is above 0, it exercises itself once more.
 abbrev pub down_body : StmtForms
 down_body = only (When (is_positive (codes "arg.n")) (only again) NoStmts)
 
--- the choice that calls itself as often as its number says
+-- The choice Down, which calls itself as often as its number says.
 abbrev pub down_form : ChoiceForm
 down_form =
     choice_with (codes "Down") false (declared (codes "n") IntKind) (codes "this.owner") down_body
 
--- a contract whose choice calls itself
+-- the template of a contract whose choice calls itself
 abbrev pub loop_form : TemplateForm
 loop_form =
     record {
@@ -96,5 +103,6 @@ loop_form =
       choices = down_form ∷ [];
     }
 
+-- the package Iou, of these two templates
 abbrev pub iou_package : PackageForm
 iou_package = record { name = codes "Iou"; templates = iou_form ∷ loop_form ∷ [] }

@@ -15,14 +15,14 @@ use ledger_terms::{
 use std::alloc::{AllocError, Global};
 use std::boxed::Box;
 
-/// The name of the package and of its first template.
+/// The name Iou, of the package and of its first template.
 pub(crate) fn iou_name() -> Name
     ensures { result ≡ codes "Iou" }
 {
     Name::read("Iou").unwrap()
 }
 
-/// The template of debts.
+/// The name of the template of debts.
 pub(crate) fn iou_template_name() -> TemplateName
     ensures { result ≡ iou_template_name }
 {
@@ -42,7 +42,7 @@ fn loop_template_name() -> TemplateName
     }
 }
 
-/// The choice by which a debt gets a new owner.
+/// The name of the choice by which a debt gets a new owner.
 pub(crate) fn transfer_name() -> Name
     ensures { result ≡ transfer_name }
 {
@@ -97,7 +97,7 @@ fn new_iou(alloc: Global, owner: &str, amount: Expr) -> Result<Stmt, AllocError>
     })
 }
 
-/// The choice by which a debt gets a new owner.
+/// The choice Transfer, by which the owner of a debt gives it a new owner.
 pub(crate) fn transfer(alloc: Global) -> Result<Choice, AllocError>
     ensures { IfOk result (λ c. c ≡ transfer_form) }
 {
@@ -114,7 +114,7 @@ fn larger_amount(alloc: Global) -> Result<Expr, AllocError>
     Ok(Expr::Add(Box::new(alloc, amount)?, Box::new(alloc, by)?))
 }
 
-/// The choice by which a debt grows.
+/// The choice Grow, by which the issuer of a debt adds a number to its amount.
 pub(crate) fn grow(alloc: Global) -> Result<Choice, AllocError>
     ensures { IfOk result (λ c. c ≡ grow_form) }
 {
@@ -170,7 +170,7 @@ fn down_body(alloc: Global) -> Result<StmtList, AllocError>
     )
 }
 
-/// The choice that calls itself as often as its number says.
+/// The choice Down, which calls itself as often as its number says.
 pub(crate) fn down(alloc: Global) -> Result<Choice, AllocError>
     ensures { IfOk result (λ c. c ≡ down_form) }
 {

@@ -1,4 +1,4 @@
-//! Small forms of the language.
+//! Small parts of a package: expressions and declarations.
 ghost use Rattle.std.specs.Prelude.{◌≡◌, pos, IfOk, Ok};
 ghost use Rattle.ledger_terms.specs.ExprForms.{expr_form};
 ghost use Rattle.ledger_terms.specs.Syntax.{Var, SetOf, NoExprs, Literal};
@@ -10,7 +10,7 @@ use ledger_terms::{Expr, ExprList, FieldDecl, Kind, Name, Text, Value};
 use std::alloc::{AllocError, Global};
 use std::boxed::Box;
 
-/// Two things that are made, or want of memory where one of them wants it.
+/// The values of two calls that want memory, or want of memory where one of them wants it.
 pub(crate) fn both<A: Drop, B: Drop>(
     first: Result<A, AllocError>,
     second: Result<B, AllocError>,
@@ -20,21 +20,21 @@ pub(crate) fn both<A: Drop, B: Drop>(
     Ok((first?, second?))
 }
 
-/// A variable.
+/// The expression of the variable with this name, as `this.owner`.
 pub(crate) fn variable(alloc: Global, name: &str) -> Result<Expr, AllocError>
     ensures { IfOk result (λ e. expr_form e ≡ Var name.now) }
 {
     Ok(Expr::Var(Text::of(alloc, name)?))
 }
 
-/// A number that stands in a package.
+/// The expression of a whole number.
 pub(crate) fn integer(number: i64) -> Expr
     ensures { expr_form result ≡ Literal (IntValue number) }
 {
     Expr::Literal(Value::Int(number))
 }
 
-/// The set of the one party that a variable names.
+/// The expression of a set with one party, the value of the variable with this name.
 #[tactic(auto, using(ledger_terms::proofs::ExprRows::form_SetOf))]
 pub(crate) fn one_party(alloc: Global, name: &str) -> Result<Expr, AllocError>
     ensures { IfOk result (λ e. expr_form e ≡ one_party name.now) }
@@ -44,7 +44,7 @@ pub(crate) fn one_party(alloc: Global, name: &str) -> Result<Expr, AllocError>
     Ok(Expr::SetOf(parties))
 }
 
-/// The empty set.
+/// The expression of the empty set of parties.
 #[tactic(auto, using(ledger_terms::proofs::ExprRows::form_SetOf))]
 pub(crate) fn no_parties(alloc: Global) -> Expr
     ensures { expr_form result ≡ SetOf NoExprs }
@@ -52,7 +52,7 @@ pub(crate) fn no_parties(alloc: Global) -> Expr
     Expr::SetOf(ExprList::new(alloc))
 }
 
-/// Whether a variable is above 0.
+/// The expression that the variable with this name is above 0.
 pub(crate) fn is_positive(alloc: Global, name: &str) -> Result<Expr, AllocError>
     ensures { IfOk result (λ e. expr_form e ≡ is_positive name.now) }
 {
@@ -60,7 +60,7 @@ pub(crate) fn is_positive(alloc: Global, name: &str) -> Result<Expr, AllocError>
     Ok(Expr::Less(Box::new(alloc, zero)?, Box::new(alloc, number)?))
 }
 
-/// A field or a parameter.
+/// The declaration of a field or a parameter with this name and of this kind.
 pub(crate) fn field(name: Name, kind: Kind) -> FieldDecl
     ensures { result ≡ declared name kind }
 {

@@ -69,7 +69,8 @@ fn looping_template(alloc: Global) -> Result<Template, AllocError>
     })
 }
 
-/// A debt of an issuer, who signs it, to an owner, who observes it and may transfer it; and a contract whose choice calls itself.
+/// The package Iou with two templates: a debt of an issuer, who signs it and may let it grow, to an owner, who observes it and may transfer it; and
+/// a contract with a choice that calls itself.
 pub fn iou_package(alloc: Global) -> Result<Package, AllocError>
     ensures { IfOk result (λ p. p ≡ iou_package) }
 {

@@ -6,7 +6,7 @@ ghost use Rattle.load_gen.specs.Generated.{generated};
 ghost use Rattle.load_gen.specs.declared.numbers.TheConstants.{AMOUNTS, INCREMENT, MULTIPLIER};
 ghost use Rattle.load_gen.specs.declared.topology.TheConstants.{PARTICIPANTS, REACTION_TIMEOUT, RESPONSE_TIMEOUT, SKEW};
 
-/// A generated script is accepted as one that was read is, whatever its amounts start from. Each debt is two submissions, so
+/// A generated script is accepted as one that was read is, whatever its seed. Each debt is two submissions, so
 /// half as many debts as a script may have submissions are allowed, which is as many as the command line lets through.
 pub fn generated_scripts_are_accepted()
     ensures { (seed count : ℕ) → 2 * count ≤ MOST_SUBMISSIONS → IsAccepted (generated seed count) }

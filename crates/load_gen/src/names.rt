@@ -6,7 +6,7 @@ ghost use Rattle.load_gen.specs.Numbers.{numbered, participant_at, party_at, is_
 use ledger_terms::Name;
 use std::alloc::{AllocError, Global};
 
-/// A letter with a number behind it.
+/// The name of a letter with a number behind it, as `c7`.
 pub(crate) fn numbered(alloc: Global, letter: &str, number: u32) -> Result<Name, AllocError>
     requires { IsTrue (is_one_letter letter.now) }
     ensures { IfOk result (λ name. name ≡ numbered letter.now number) }
@@ -15,14 +15,14 @@ pub(crate) fn numbered(alloc: Global, letter: &str, number: u32) -> Result<Name,
     Ok(Name::read(text.as_str()).unwrap())
 }
 
-/// The participant at a place.
+/// The name of the participant with this index, from 0: G1 to G4.
 pub(crate) fn participant_at(alloc: Global, place: u8) -> Result<Name, AllocError>
     ensures { IfOk result (λ name. name ≡ participant_at place) }
 {
     numbered(alloc, "G", u32::from(place) + 1)
 }
 
-/// The party of the participant at a place.
+/// The name of the party of the participant with this index, from 0: A1 to A4.
 pub(crate) fn party_at(alloc: Global, place: u8) -> Result<Name, AllocError>
     ensures { IfOk result (λ name. name ≡ party_at place) }
 {

@@ -24,7 +24,7 @@ fn round_of(alloc: Global, submits: SubmissionList) -> Round
     }
 }
 
-/// The script of a count and a seed: so many debts in one round, and their transfers in the next. It has no rules.
+/// The generated script of `count` debts, which one round creates and the next one transfers; their amounts come from `seed`. It has no rules.
 pub fn generate(alloc: Global, count: u32, seed: u64) -> Result<Script, AllocError>
     ensures { IfOk result (λ script. script ≡ generated seed count) }
 {

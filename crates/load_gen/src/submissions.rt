@@ -99,7 +99,7 @@ fn transfer_of(alloc: Global, turn: u32) -> Result<Submission, AllocError>
     )
 }
 
-/// The submissions of so many debts, each of an amount by the next number behind the seed.
+/// The submissions that create `count` debts, in order, the amount of each by the next number behind `seed`.
 pub fn generated_debts(alloc: Global, count: u32, seed: u64) -> Result<SubmissionList, AllocError>
     ensures { IfOk result (λ s. s ≡ debts seed count) }
 {
@@ -112,7 +112,7 @@ pub fn generated_debts(alloc: Global, count: u32, seed: u64) -> Result<Submissio
     Ok(debts)
 }
 
-/// The submissions that transfer so many debts.
+/// The submissions that transfer `count` debts, in order, each by the one to whom the debt is owed.
 pub fn generated_transfers(alloc: Global, count: u32) -> Result<SubmissionList, AllocError>
     ensures { IfOk result (λ s. s ≡ transfers count) }
 {

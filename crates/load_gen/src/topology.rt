@@ -50,7 +50,7 @@ fn hosts(alloc: Global) -> Result<HostList, AllocError>
     Ok(hosts)
 }
 
-/// The participants of a generated script, each of which has vetted all packages, and the times of a script that gives none.
+/// The topology of a generated script: four participants, each with a party and all packages vetted, and the times of a script that gives none.
 pub fn generated_topology(alloc: Global) -> Result<Topology, AllocError>
     ensures { IfOk result (λ t. t ≡ record { hosts = hosts; params = params }) }
 {

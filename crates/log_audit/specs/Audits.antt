@@ -12,12 +12,12 @@ use Rattle.log_judge.specs.declared.judgement.Judgement.TheVariants as judgement
 use Rattle.log_audit.specs.declared.answer.Audit.{Audit}
 use Rattle.log_audit.specs.declared.answer.Audit.TheVariants.{Yes, No, Bad}
 
--- the bytes are read as this script and log
+-- The bytes are read as a dump of this script and this log.
 abbrev pub Dumps : {S : Type 0} → (reads : List ℕ → Option S) → (most : S → ℕ) → List ℕ → S → List Entry → Type 0
 Dumps reads most bytes script log = dump_in reads most bytes ≡ Ok (script, log)
 
--- What the audit says of the bytes is so: they are a dump of a proper log with so many entries and approved requests; or of a log that fails
--- at that place, for that reason; or no dump, and what can't be read begins at `at`.
+-- What the audit says of the bytes is so: they are a dump of a proper log with so many entries and approved requests; or a dump of a log that fails
+-- at that place, for that reason; or no dump, and what can't be read begins at the byte `at`.
 abbrev pub IsAudit : {S : Type 0} → (reads : List ℕ → Option S) → (most : S → ℕ) → (standard : S → Standard) → (bytes : List ℕ) → Audit → Type 0
 IsAudit {S} reads most standard bytes (Yes entries approved) =
     (script : S) × (log : List Entry) × Dumps reads most bytes script log × IsProper (standard script) log
@@ -26,8 +26,9 @@ IsAudit {S} reads most standard bytes (No place why) =
     (script : S) × (log : List Entry) × Dumps reads most bytes script log × FailsAt (standard script) log place why
 IsAudit {S} reads most standard bytes (Bad at) = (left : ℕ) × (dump_in reads most bytes ≡ Err left) × (at ≡ length bytes - left)
 
--- the bytes spell a script and a proper log
+-- The bytes are the dump of a script and a proper log.
 pub record SpellsProperLog {S : Type 0} (reads : List ℕ → Option S) (most : S → ℕ) (standard : S → Standard) (bytes : List ℕ) : Type 0 where
+  -- the script's bytes
   pub block : List ℕ
   pub script : S
   pub log : List Entry
@@ -37,13 +38,13 @@ pub record SpellsProperLog {S : Type 0} (reads : List ℕ → Option S) (most : 
   pub in_range : IsLog (most script) log
   pub proper : IsProper (standard script) log
 
--- the audit says yes
+-- The audit says yes.
 abbrev pub IsYes : Audit → Type 0
 IsYes (Yes entries approved) = Unit {0}
 IsYes (No place why) = ⊥
 IsYes (Bad at) = ⊥
 
--- what an audit says of a dump, by the judgement on its log
+-- What an audit says of a dump, by the judgement on the dump's log.
 abbrev pub audit_of : Judgement → Audit
 audit_of (judgement.Yes entries approved) = Yes entries approved
 audit_of (judgement.No place why) = No place why

@@ -9,7 +9,7 @@ use Rattle.pruned_inbox.specs.Start.{no_start}
 use Rattle.node_inbox.specs.InboxState.{InboxState}
 use Rattle.framed_form.specs.FramedReading.{framed_reading}
 
--- the inbox of a participant over a log, of which it has forgotten nothing
+-- The inbox of participant p over a log, of which it has forgotten nothing.
 abbrev pub inbox_of : Topology → Packages → List Entry → ℕ → InboxState
 inbox_of topology packages log p =
     record {
@@ -22,12 +22,12 @@ inbox_of topology packages log p =
       items = inbox (framed_reading topology packages) p log;
     }
 
--- There is an inbox for each host, in their order, and each has read this log.
+-- There is an inbox for each host, in order of the topology, and each has read this whole log.
 pub record HaveRead (topology : Topology) (packages : Packages) (inboxes : List InboxState) (log : List Entry) : Type 0 where
   pub hosts : length inboxes ≡ length topology.hosts
   pub each : (p : ℕ) → p < length inboxes → slice_get inboxes p ≡ Some (inbox_of topology packages log p)
 
--- The inboxes have read a log that stays genuine with this entry behind it.
+-- The inboxes may read the entry: they have read a log that stays genuine with this entry behind it, and it isn't too long.
 pub record MayRead (inboxes : List InboxState) (entry : Entry) : Type 0 where
   pub topology : Topology
   pub packages : Packages

@@ -5,7 +5,7 @@ use Rattle.audit_model.specs.declared.why.Why.TheVariants.{Time, Unframed, Repea
 use Rattle.log_audit.specs.declared.answer.Audit.{Audit}
 use Rattle.log_audit.specs.declared.answer.Audit.TheVariants.{Yes, No, Bad}
 
--- the word of a case, as the line of an audit has it
+-- The word of a case, as the line of an audit has it.
 abbrev pub why_name : Why → List ℕ
 why_name Time = codes "Time"
 why_name Unframed = codes "Unframed"
@@ -16,12 +16,12 @@ why_name WrongCheck = codes "WrongCheck"
 why_name WrongDecision = codes "WrongDecision"
 why_name WrongTrigger = codes "WrongTrigger"
 
--- what an audit says, in words: `yes entries N approved A`, `no PLACE WHY` or `bad AT`
+-- What an audit says, in words: `yes entries N approved A`, `no PLACE WHY` or `bad AT`.
 abbrev pub told_of : Audit → List ℕ
 told_of (Yes entries approved) = codes "yes entries " ++ decimal entries ++ codes " approved " ++ decimal approved
 told_of (No place why) = codes "no " ++ decimal place ++ codes " " ++ why_name why
 told_of (Bad at) = codes "bad " ++ decimal at
 
--- the line of an audit, with its line feed
+-- The line of an audit, with its line feed.
 abbrev pub line_of : Audit → List ℕ
 line_of audit = told_of audit ++ codes "\n"

@@ -8,19 +8,19 @@ use Rattle.script_read.specs.Script.{script_in}
 use Rattle.script_read.specs.declared.script.Script.{Script}
 use Rattle.script_read.specs.declared.script_fault.ScriptFault.{ScriptFault}
 
--- the script that was read, and None where a fault was found
+-- The script that was read, and None where a fault was found.
 abbrev pub unless_fault : Result Script ScriptFault → Option Script
 unless_fault (Ok script) = Some script
 unless_fault (Err fault) = None
 
--- the script that the bytes are, and None where they have a fault
+-- The script that the bytes of a JSON text spell, and None where they have a fault.
 unfoldable pub script_of : List ℕ → Option Script
 script_of bytes = unless_fault (script_in bytes)
 
--- the greatest index of a participant of the script
+-- The greatest index of a participant of the script. The first one has the index 0.
 abbrev pub most_of : Script → ℕ
 most_of script = length (script.topology).hosts - 1
 
--- what a script's logs are judged by: its participants, packages, times and rules
+-- What the logs of a script are judged by: its participants, packages, times and rules.
 abbrev pub standard_of : Script → Standard
 standard_of script = standard_for (framed_reading script.topology script.checked) (script.topology).params (map rule_of script.triggers)

@@ -75,9 +75,9 @@ fn audited(alloc: Global, bytes: &[u8]) -> Result<Audit, AllocError>
     }
 }
 
-/// Audits a dump: whether its log is one that a synchroniser over its script's participants and packages may have written, whoever
-/// wrote it. The audit makes its own participants and mediator of the script, and trusts nobody else's. It vouches for no submitter:
-/// whether anybody asked for what a request says isn't in a log.
+/// Audits a dump: whether its log is one that a synchroniser over its script's participants and packages may have written, whoever wrote it. The
+/// audit makes its own participants and mediator of the script, and trusts nobody else's. It vouches for no submitter: whether anybody asked for what
+/// a request says isn't in a log. An error is want of memory alone.
 pub fn audit(alloc: Global, bytes: &[u8]) -> Result<Audit, AllocError>
     ensures exact { IfOk result (IsAudit script_of most_of standard_of bytes.now) }
     ensures yes { IfOk result (λ a. IsYes a ↔ SpellsProperLog script_of most_of standard_of bytes.now) }

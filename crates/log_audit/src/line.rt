@@ -43,7 +43,7 @@ fn put_audit(out: &mut String, audit: Audit) -> Result<(), AllocError>
     }
 }
 
-/// The line of an audit: `yes entries N approved A`, `no PLACE WHY` or `bad AT`.
+/// The line of an audit, with its line feed: `yes entries N approved A`, `no PLACE WHY` or `bad AT`.
 pub fn audit_line(alloc: Global, audit: Audit) -> Result<Text, AllocError>
     ensures { IfOk result (λ text. text ≡ line_of audit) }
 {

@@ -50,7 +50,8 @@ fn owed_by(inbox: &Inbox<'_>, alloc: Global, place: u64) -> Result<ViewVerdictLi
     }
 }
 
-/// The verdicts that a response of the participant to the request at a place has to hold, by the inboxes of all participants.
+/// The verdicts that a response of participant p to the request at a place has to hold, by the inboxes of all participants. There is none where
+/// p owes none there.
 pub(crate) fn owed(
     inboxes: &Vec<Inbox<'_>>,
     alloc: Global,

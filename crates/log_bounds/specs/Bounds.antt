@@ -6,21 +6,23 @@ use Rattle.canton_model.specs.Inbox.{inbox, node_active}
 use Rattle.canton_model.specs.Reading.{Reading}
 use Rattle.canton_model.specs.declared.entry.Entry.{Entry}
 
--- the least bytes of an action that is opened: those of its seed
+-- how many bytes an action at least takes in an envelope: those of its seed
 abbrev pub LEAST_ACTION_BYTES : ℕ
 LEAST_ACTION_BYTES = 32
 
--- the least bytes of a view that the mediator is told of: its tag, a hash with its tag for each of two leaves, and a count
+-- How many bytes a view at least takes in what the mediator is told: its tag, a hash with its tag for each of two leaves, and a count.
 abbrev pub LEAST_VIEW_BYTES : ℕ
 LEAST_VIEW_BYTES = 69
 
--- the most actions that an envelope opens: its most bytes in parts of 32
+-- how many actions an envelope opens at most: its most bytes, 4,194,304, in parts of 32
 abbrev pub MOST_OPENED_ACTIONS : ℕ
 MOST_OPENED_ACTIONS = 131072
 
--- The contract is one that the participant, having read some first entries of the log, has as active below some place.
+-- The contract with this id was active at participant p at some time: below some place, by the inbox of some first entries of the log.
 pub record WasActive (reading : Reading) (p : ParticipantId) (log : List Entry) (id : Hash) : Type 0 where
+  -- how many entries had been read
   pub read : ℕ
+  -- the place at which the contract is active
   pub below : ℕ
   pub row : ActiveRow
   pub active : Contains (node_active reading p (inbox reading p (take read log)) below) row

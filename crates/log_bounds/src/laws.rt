@@ -34,7 +34,8 @@ ghost use Rattle.framed_form.specs.FramedForm.{outline_of};
 ghost use Rattle.framed_form.specs.FramedReading.{framed_reading};
 ghost use Rattle.log_bounds.specs.Bounds.{LEAST_ACTION_BYTES, LEAST_VIEW_BYTES, MOST_OPENED_ACTIONS, WasActive};
 
-/// What is opened of bytes has at most one action for each 32 of them, since the seed of each stands in them.
+/// What is opened of bytes (`root` is the hash of the tree, `seen` the paths of the views seen, `requesters` whether they are asked for) has at most
+/// one action for each 32 bytes, since the seed of each stands in them.
 pub fn opened_actions_are_few()
     ensures { (root : List ℕ) (seen : List (List ℕ)) (requesters : Bool) (bytes : List ℕ) (opened : OpenedTree)
         → opened_for_root root seen requesters bytes ≡ Open opened

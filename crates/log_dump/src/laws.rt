@@ -19,14 +19,14 @@ pub fn one_spelling()
     ensures logs { (most : ℕ) → HasOneSpelling spell_log (IsLog most) (log_at most) }
 {}
 
-/// What is in range can be encoded.
+/// What is in range, as all that is read is, has room in a spelling and so can be encoded again.
 pub fn in_range_is_spellable()
     ensures entries { (most : ℕ) → IsEnoughFor (IsEntry most) IsSpellableEntry }
     ensures logs { (most : ℕ) → IsEnoughFor (IsLog most) IsSpellableLog }
 {}
 
-/// A genuine log whose requests have room for their spelling has a spelling: what participants owe and the mediator decides has room then,
-/// too.
+/// A genuine log of fewer than 2^32 entries whose requests have room for their spelling has a spelling: what participants owe and the mediator
+/// decides has room then, too.
 pub fn genuine_logs_are_spellable()
     ensures { (reading : Readings) (params : Params) (log : List Entry)
         → IsReading reading

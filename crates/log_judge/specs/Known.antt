@@ -9,18 +9,20 @@ use Rattle.audit_model.specs.Standard.{Rule, Standard}
 use Rattle.log_judge.specs.RuleUses.{AreUsed, rules_of}
 use Rattle.log_judge.specs.declared.auditor.Auditor.{Auditor}
 
--- the mediator's laws ask for a machine, and look at its reading and its times alone
+-- A machine with this reading and these times. The mediator's laws ask for one, and look at these two alone, so that all else is left empty.
 abbrev pub machine_for : Reading → Params → Machine
 machine_for reading params = record { reading = reading; params = params; capacity = 0; hosts = 0; prepare = λ what items now. None }
 
+-- What a log is judged by: how requests are read, the times, and the rules of participants.
 abbrev pub standard_for : Reading → Params → List Rule → Standard
 standard_for reading params rules = record { reading = reading; params = params; rules = rules }
 
--- what an auditor judges by, where its participants read requests so and have these times
+-- What an auditor judges by: this reading and these times, which are its participants', and the rules that it keeps.
 abbrev pub standard_of : {P : Type 0} → Reading → Params → Auditor P → Standard
 standard_of reading params auditor = standard_for reading params (rules_of auditor.rules)
 
--- The auditor's entries are the log's, its participants and its mediator have read it, and it has noted what rules' requests exercise.
+-- The auditor knows this log: its entries are the log's, its participants (by `have_read`) and its mediator have read it, and it has noted what
+-- rules' requests in it exercise.
 pub record KnowsLog {P : Type 0} (reading : Reading) (params : Params) (have_read : List Entry → Type 0) (auditor : Auditor P)
     (log : List Entry) : Type 0 where
   pub same : auditor.params ≡ params

@@ -45,7 +45,7 @@ fn is_unframed(message: &Message, outline: Option<&Outline>) -> bool
 }
 
 impl<P: Participants> Auditor<P> {
-    /// An auditor that has read nothing.
+    /// An auditor that has read nothing, with participants that have read nothing, over this topology and these rules.
     pub fn new(
         alloc: Global,
         topology: &Topology,
@@ -69,7 +69,7 @@ impl<P: Participants> Auditor<P> {
         })
     }
 
-    /// What the mediator's bytes of an entry's request tell, where that is framed.
+    /// What the mediator's bytes of an entry's request tell, and none where the request isn't framed or the entry holds no request.
     pub(crate) fn framed_outline(
         &self,
         alloc: Global,
@@ -120,7 +120,7 @@ impl<P: Participants> Auditor<P> {
         }
     }
 
-    /// Whether an entry that shows no earlier case shows this one, after the log that was read.
+    /// Whether an entry that shows no earlier case shows the case `why`, after the log that was read. `outline` is what `framed_outline` gave of the entry.
     pub(crate) fn shows(
         &self,
         alloc: Global,
@@ -148,7 +148,7 @@ impl<P: Participants> Auditor<P> {
         }
     }
 
-    /// Reads one more entry, which shows no case. After want of memory nothing is known of what was read.
+    /// Reads one more entry, which shows no case. `outline` is what `framed_outline` gave of it. After want of memory nothing is known of what was read.
     pub(crate) fn read(
         &mut self,
         alloc: Global,

@@ -37,7 +37,8 @@ fn exercised_in(roots: &ActionNodeList) -> Option<Hash>
     }
 }
 
-/// The contract that a transaction exercises for a rule.
+/// The contract that a request exercises for a rule, by its whole transaction: the transaction's one root is an Exercise of it, and its one requester
+/// is the rule's party. None where that isn't so, or where there is no whole.
 pub(crate) fn exercised_for(rule: &Rule, whole: &Option<WholeTransaction>) -> Option<Hash>
     ensures { result ≡ exercised_for (rule_of rule.now) (option_map transaction whole.now) }
 {

@@ -48,21 +48,22 @@ impl ReadLog {
         }
     }
 
-    /// Whether an entry's time doesn't follow that of the last one read.
+    /// Whether an entry's time doesn't follow that of the last one read, or 0 where none was read.
     pub fn is_mistimed(&self, entry: &Entry) -> bool
         ensures { Decides result (IsMistimed self.now.list entry.now) }
     {
         !follows(&entry.message, self.last, entry.time)
     }
 
-    /// Whether a message repeats one that was read.
+    /// Whether a message repeats one that was read: a request of the same sender and command, a response of the same participant to the same request,
+    /// or a verdict on the same request. A Tick repeats none.
     pub fn is_repeated(&self, message: &Message) -> bool
         ensures { result ≡ is_repeated self.now.list message.now }
     {
         place_of(&self.places, message).is_some()
     }
 
-    /// The request at a place.
+    /// The request at a place, and none where no request stands there.
     pub fn request(&self, place: u64) -> Option<&Request>
         ensures { option_copied result ≡ request_at self.now.list place }
     {
@@ -82,7 +83,7 @@ impl ReadLog {
         }
     }
 
-    /// Whether a message answers or decides a place without a request, or answers one that doesn't ask its sender.
+    /// Whether a message answers or decides a place without a request, or answers a request that doesn't ask its sender. Of a request and a Tick it is false.
     pub fn answers_nothing(&self, message: &Message) -> bool
         ensures { Decides result (AnswersNothing self.now.list message.now) }
     {
@@ -114,7 +115,7 @@ impl ReadLog {
         decision < time
     }
 
-    /// Whether an entry is a response or a verdict after the decision time of its request.
+    /// Whether an entry is a response or a verdict after the decision time of its request. Of a request and a Tick it is false.
     pub fn is_too_late(&self, params: &Params, entry: &Entry) -> bool
         ensures { Decides result (IsTooLate params.now self.now.list entry.now.message entry.now.time) }
     {

@@ -48,7 +48,7 @@ impl RuleUse {
         })
     }
 
-    /// Whether a request has a command of the rule, and is its participant's.
+    /// Whether a request is the rule's: it is of the rule's participant, and has a command that is kept for the rule.
     pub(crate) fn has_caused(&self, request: &Request) -> bool
         ensures { result ≡ is_caused_by (rule_of self.now.rule) request.now }
     {
@@ -61,7 +61,8 @@ impl RuleUse {
         self.contracts.contains(contract)
     }
 
-    /// Whether a request is the rule's, and exercises nothing for it or a contract that an earlier one exercises.
+    /// Whether a request is the rule's, and exercises nothing for it or a contract that an earlier one of the rule exercises. `whole` is the
+    /// request's transaction, and none where it can't be read.
     pub(crate) fn is_wrong(&self, request: &Request, whole: &Option<WholeTransaction>) -> bool
         ensures { result ≡ is_wrong_by request.now (option_map transaction whole.now) self.now }
     {
@@ -77,7 +78,7 @@ impl RuleUse {
         }
     }
 
-    /// Notes what a request exercises for the rule, where it is the rule's.
+    /// Notes what a request exercises for the rule, where it is the rule's. `whole` is the request's transaction, and none where it can't be read.
     pub(crate) fn read(
         &mut self,
         request: &Request,

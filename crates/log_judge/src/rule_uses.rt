@@ -53,7 +53,7 @@ impl RuleUses {
         Ok(RuleUses { uses })
     }
 
-    /// Whether a request is that of some rule.
+    /// Whether a request is that of some rule: it is of the rule's participant, and has a command that is kept for the rule.
     pub(crate) fn have_caused(&self, request: &Request) -> bool
         ensures { result ≡ list_any (λ (one : Used). is_caused_by (rule_of one.rule) request.now) self.now }
     {
@@ -63,7 +63,8 @@ impl RuleUses {
             .any(|rule| rule.has_caused(request))
     }
 
-    /// Whether a request is that of some rule, and not what that rule may cause.
+    /// Whether a request is that of some rule, and not what that rule may cause after those before it. `whole` is the request's transaction, and none
+    /// where it can't be read.
     pub(crate) fn is_wrong(&self, request: &Request, whole: &Option<WholeTransaction>) -> bool
         ensures { result ≡ list_any (is_wrong_by request.now (option_map transaction whole.now)) self.now }
     {
@@ -73,7 +74,8 @@ impl RuleUses {
             .any(|rule| rule.is_wrong(request, whole))
     }
 
-    /// Notes what a request exercises for each rule whose it is. After want of memory some have noted it and some haven't.
+    /// Notes what a request exercises for each rule whose it is. `whole` is its transaction, and none where it can't be read. After want of memory
+    /// some rules have noted it and some haven't.
     pub(crate) fn read(
         &mut self,
         request: &Request,

@@ -44,7 +44,7 @@ fn same_verdict(a: &ViewVerdict, b: &ViewVerdict) -> bool
     same_paths(&a.view, &b.view) && same_local(a.verdict, b.verdict)
 }
 
-/// Whether two lists of verdicts are the same.
+/// Whether two lists of verdicts are the same: as long, with the same view and the same verdict at each index.
 pub fn same_verdicts(a: &[ViewVerdict], b: &[ViewVerdict]) -> bool
     ensures { Decides result (a.now ≡ b.now) }
 {
@@ -59,7 +59,7 @@ pub fn same_verdicts(a: &[ViewVerdict], b: &[ViewVerdict]) -> bool
     true
 }
 
-/// Whether two decisions are the same.
+/// Whether two decisions are the same, with the same participant, view and reason, or the same missing participants in the same order.
 pub fn same_decisions(a: &Decision, b: &Decision) -> bool
     ensures { Decides result (a.now ≡ b.now) }
 {

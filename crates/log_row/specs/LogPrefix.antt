@@ -4,27 +4,27 @@ use mathlib.Core.List.{IsPrefix}
 use Rattle.atomic_table.specs.Seated.{TableId}
 use Rattle.canton_model.specs.declared.entry.Entry.{Entry}
 
--- the name of one history
+-- the name of one history, by which values behind different locks are known to be of the same log; nothing of it is there when the program runs
 abbrev pub RowName : Type 0
 RowName = TableId
 
--- the name of no history
+-- a name that no history has
 abbrev pub no_row : RowName
 no_row = record { words = 0; slots = 0; views_name = 0; atom = 0; block = 0; offset = 0; slot_names = [] }
 
--- which history, and the list of its entries as far as it goes
+-- what contracts see of a pen or a slip: which history it is of, and the entries of that as far as it knows them
 pub record LogPrefix : Type 0 where
   pub row : RowName
   pub list : List Entry
 
--- the history after one more entry
+-- a history with one more entry at its end
 abbrev pub extended : LogPrefix → Entry → LogPrefix
 extended t entry = record { row = t.row; list = t.list ++ entry ∷ [] }
 
--- the list of one of the two begins the other's
+-- one of the two lists begins the other, as the lists of two slips of one history do
 abbrev pub Agree : List Entry → List Entry → Type 0
 Agree xs ys = IsPrefix xs ys ⊎ IsPrefix ys xs
 
--- the entry is the last of the list, and stands at the place
+-- the entry is the last of the list, and stands there at this place, counted from 0
 abbrev pub EndsAt : List Entry → ℕ → Entry → Type 0
 EndsAt list place entry = (length list ≡ place + 1) × (slice_get list place ≡ Some entry)

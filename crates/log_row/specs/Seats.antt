@@ -8,36 +8,40 @@ use Rattle.canton_model.specs.declared.entry.Entry.{Entry}
 use Rattle.log_row.specs.declared.seat.View.{View}
 use Rattle.log_row.specs.Lists.{AllBegin, longer}
 
--- the writer's view, of all entries
+-- what the writer's seat knows, where these are all entries of the log
 abbrev pub writer : List Entry → View
 writer list = record { writes = true; list = list; joined = [] }
 
--- the view of a seat that has read these entries
+-- what another seat knows, where these are the entries that it knows of, from the first on
 abbrev pub reader : List Entry → View
 reader list = record { writes = false; list = list; joined = [] }
 
--- what the rule says of the view that the seat `by` has, where `seat` is the writer's and `log` the writer's list
+-- What the rule says of what seat number `by` knows (last argument), where seat number `seat` is the writer's and `log` all entries: if it says that
+-- it is the writer's it is, and knows them all; and its list, and each list joined into it, begins `log`.
 abbrev pub Fits : ℕ → List Entry → ℕ → View → Type 0
 Fits seat log by v = (v.writes ≡ true → (by ≡ seat) × (v.list ≡ log)) × IsPrefix v.list log × AllBegin v.joined log
 
--- The word is the length of the writer's list. The list of every seat, and each list that the seat has joined, begins the writer's list
+-- The rule of a row's table, which every step keeps: the table's word is the length of the writer's list, and what each seat knows fits that list.
 abbrev pub Kept : State (Unit {0}) View → Type 0
 Kept s =
     (seat : ℕ) × (log : List Entry) × (s.words ≡ length log ∷ [])
     × ((by : ℕ) (v : View) → get_elem? s.views by ≡ some v → Fits seat log by v)
 
--- a new seat has the same list, and isn't the writer
+-- what a new seat knows that is split off another: the same list, and that it isn't the writer
 abbrev pub copied : View → View
 copied v = reader v.list
 
--- two views in one: the writer keeps its list, and another seat the longer one. Both lists are noted
+-- What a seat knows into which another (second argument) was joined: the writer keeps its list, and any other seat has the longer of the two. Both
+-- lists are noted.
 abbrev pub joined : View → View → View
 joined v w = record { writes = v.writes; list = if v.writes then v.list else longer v.list w.list; joined = v.list ∷ w.list ∷ v.joined }
 
--- the writer's list grows by these entries
+-- The writer's list grows by these entries. The arguments behind them are the step, what the seat has before it, the word that was found, and what
+-- the seat has after it.
 abbrev pub Appends : List Entry → Step (Unit {0}) → Me (Unit {0}) View → ℕ → Me (Unit {0}) View → Type 0
 Appends entries s v found w = w ≡ (writer (v.0.list ++ entries), v.1)
 
--- each list that was joined begins the seat's own, which stays as it is
+-- A seat learns that each list that was joined into it begins its own, which stays as it is. The arguments are the step, what the seat has before it,
+-- the word that was found, and what the seat has after it.
 abbrev pub Learns : Step (Unit {0}) → Me (Unit {0}) View → ℕ → Me (Unit {0}) View → Type 0
 Learns s v found w = (w ≡ (record { writes = v.0.writes; list = v.0.list; joined = [] }, v.1)) × AllBegin v.0.joined v.0.list

@@ -19,7 +19,7 @@ impl SlotRule<Stored> for AnyEntry {
 // A slot is written by the one writer alone, so nobody waits for one, and none is woken.
 type Row = Vec<OnceSlot<Stored, AnyEntry>>;
 
-/// Rows of doubling length, each made when its first entry comes.
+/// The slots in which the entries of one history lie: rows of doubling length, each made when its first entry comes.
 #[derive(Drop)]
 pub struct EntryRows {
     alloc: Global,
@@ -27,14 +27,15 @@ pub struct EntryRows {
 }
 
 impl EntryRows {
-    /// No rows yet.
+    /// A place for entries in which none lies yet.
     pub fn new(alloc: Global) -> Result<EntryRows, AllocError> {
         let mut rows = Vec::new(alloc);
         rows.resize_with(64, || OnceLock::new())?;
         Ok(EntryRows { alloc, rows })
     }
 
-    /// Puts the entry into the slot of the index. Where that isn't empty, or there is no memory, the entry comes back.
+    /// Puts the entry into the slot of the index, counted from 0, and lends it. Where that slot isn't empty, or there is no memory, the entry comes
+    /// back as the Err.
     pub fn put<'r>(&'r self, index: u64, entry: Stored) -> Result<&'r Stored, Stored>
         requires { index < 2 ^ 63 }
         ensures { MatchResult result (λ r. r.now ≡ entry) (λ e. e ≡ entry) }

@@ -144,7 +144,7 @@ impl LogRow {
         Ok(LogRow { histories })
     }
 
-    /// Begins a new and empty history, and gives its one writer. All memory is taken before anything changes.
+    /// Begins a new and empty history in the row, and gives the pen that alone writes it. All memory is taken before anything changes.
     pub fn open<'r>(&'r mut self) -> Result<Pen<'r>, AllocError>
         ensures named { IfOk result (λ p. p.row ≡ self.old) }
         ensures empty { IfOk result (λ p. p.list ≡ []) }
@@ -177,8 +177,8 @@ impl<'r> Pen<'r> {
         self.count
     }
 
-    /// Appends the entry to the history with what its mediator's bytes tell, where it brings a request, and gives its slip. Without
-    /// memory the entry comes back.
+    /// Appends the entry to the history, and gives its slip. `outline` is what the mediator's bytes tell where the entry brings a request, and is
+    /// kept beside it. Where there is no memory the entry comes back as the Err, and nothing changes.
     pub fn publish(&mut self, entry: Entry, outline: Option<Outline>) -> Result<Slip<'r>, Entry>
         requires room { length self.old.list < 2 ^ 63 }
         requires outlined { IsOutlined entry.message outline }
@@ -205,7 +205,7 @@ impl<'r> Pen<'r> {
         })
     }
 
-    /// Shows that the slip's list begins the history. Nothing changes.
+    /// Lets the prover know that the slip's list, which is of this history, begins it. Nothing changes when the program runs.
     pub fn reaches(&mut self, slip: &mut Slip<'r>)
         requires { slip.old.row ≡ self.old.row }
         ensures same { (self.new ≡ self.old) × (slip.new ≡ slip.old) }
@@ -225,7 +225,7 @@ impl<'r> Pen<'r> {
 }
 
 impl<'r> Slip<'r> {
-    /// Where the entry stands.
+    /// The place in the log of the entry that the slip stands for, counted from 0.
     pub fn place(&self) -> u64
         ensures place { length self.now.list ≡ result + 1 }
         ensures few { result < 2 ^ 63 }
@@ -240,7 +240,7 @@ impl<'r> Slip<'r> {
         self.stored.entry()
     }
 
-    /// What the mediator's bytes tell, where the entry brings a request.
+    /// What the mediator's bytes tell, where the entry brings a request. Where it brings another message this says nothing.
     pub fn outline(&self) -> Option<&Outline>
         ensures { (k : ℕ) (entry : EntryValue) → length self.now.list ≡ k + 1 → slice_get self.now.list k ≡ Some entry
             → IsOutlined entry.message (option_copied result) }
@@ -248,7 +248,7 @@ impl<'r> Slip<'r> {
         self.stored.outline()
     }
 
-    /// A second slip of the same entry.
+    /// A second slip of the same entry, which knows the same list.
     pub fn again(&mut self) -> Slip<'r>
         ensures same { self.new ≡ self.old }
         ensures again { result ≡ self.old }
@@ -266,7 +266,7 @@ impl<'r> Slip<'r> {
         }
     }
 
-    /// Shows that the list of one of the two slips begins the other's. Nothing changes.
+    /// Lets the prover know that the list of one of two slips of one history begins the other's. Nothing changes when the program runs.
     pub fn compare(&mut self, other: &mut Slip<'r>)
         requires { other.old.row ≡ self.old.row }
         ensures same { (self.new ≡ self.old) × (other.new ≡ other.old) }

@@ -82,8 +82,11 @@ impl Join<View> for Joined {
     ghost spent = { reader [] };
 }
 
+/// The table behind a row, which the pen and the slips have in common.
 pub type RowTable = Table<(), View, (), Law, Global>;
 
+/// What the steps of all seats go through: the table's one word, which is the length of the history.
 pub type RowShared = Shared<(), View, (), Law>;
 
+/// The seat that a pen or a slip has at the table.
 pub type RowSeat = Seat<(), View>;

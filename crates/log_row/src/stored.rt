@@ -27,7 +27,7 @@ impl Model for Stored {
 }
 
 impl Stored {
-    /// An entry with what its mediator's bytes tell, where it brings a request.
+    /// Puts an entry and what its mediator's bytes tell together. `outline` is Some where the entry brings a request.
     pub fn new(entry: Entry, outline: Option<Outline>) -> Stored
         requires { IsOutlined entry.message outline }
         ensures { result ≡ entry }
@@ -35,21 +35,21 @@ impl Stored {
         Stored { entry, outline }
     }
 
-    /// The entry, to look at.
+    /// The entry itself, to look at.
     pub fn entry(&self) -> &Entry
         ensures { result.now ≡ self.now }
     {
         &self.entry
     }
 
-    /// What its mediator's bytes tell, where it brings a request.
+    /// What the mediator's bytes tell, where the entry brings a request. Where it brings another message this says nothing.
     pub fn outline(&self) -> Option<&Outline>
         ensures { IsOutlined self.now.message (option_copied result) }
     {
         self.outline.as_ref()
     }
 
-    /// The entry itself.
+    /// The entry, without what was kept beside it.
     pub fn into_entry(self) -> Entry
         ensures { result ≡ self }
     {

@@ -12,8 +12,8 @@ ghost use Rattle.world_model.specs.Places.{without_place};
 ghost use Rattle.mediator.specs.KeptCases.{KeptMediator, Keeps, Knows, known_decision, with_verdict_taken};
 ghost use Rattle.mediator.specs.Order.{HasGiven, IsFirstDue, NothingIsDue};
 
-/// What a mediator knows of the log that it has read: at first nothing, an entry more after each read, and the same after a
-/// verdict is taken or given back. Each verdict that it takes is the scan of the log.
+/// What a mediator knows of the log that it has read: at first nothing, an entry more after each read, and the same after a verdict is taken or given
+/// back. Each verdict that it takes, and each decision that it tells, is the one that the log gives (`scan`).
 pub fn mediator_knows()
     ensures new { (m : Machine) (kept : KeptMediator) → kept.params ≡ m.params → Keeps kept new_mediator → Knows m [] kept }
     ensures read { (m : Machine) (log : List EntryValue) (before after : KeptMediator) (entry : EntryValue)

@@ -14,14 +14,15 @@ use Rattle.canton_model.specs.declared.decision.Decision.{Decision}
 use Rattle.canton_model.specs.declared.decision.Decision.TheVariants.{Approved, Rejected, TimedOut}
 use Rattle.canton_model.specs.declared.verdict.Verdict.{Verdict}
 
+-- two bytes for a step of a path
 abbrev pub spell_step : ℕ → List ℕ
 spell_step step = to_be_bytes w16 step
 
--- a byte of count and two bytes a step
+-- the bytes of a path: a byte of count, and two bytes a step
 abbrev pub spell_path : List ℕ → List ℕ
 spell_path path = length path ∷ flat_map spell_step path
 
--- the number of a reason
+-- the number from 1 to 13 by which a reason is spelled
 abbrev pub reason_number : Reason → ℕ
 reason_number IdMismatch = 1
 reason_number NotVetted = 2
@@ -37,37 +38,42 @@ reason_number ViewMissing = 11
 reason_number WrongSender = 12
 reason_number WrongCommon = 13
 
+-- the byte of a reason, its number
 abbrev pub spell_reason : Reason → List ℕ
 spell_reason reason = reason_number reason ∷ []
 
--- a rejection has two bytes for its action
+-- The bytes of a local verdict: the tag 0 of an approval, or the tag 1 with the reason and two bytes for the action's number.
 abbrev pub spell_local : LocalVerdict → List ℕ
 spell_local Approve = 0 ∷ []
 spell_local (Reject reason action) = 1 ∷ (spell_reason reason ++ to_be_bytes w16 action)
 
+-- the bytes of a verdict on a view: its path and the verdict
 abbrev pub spell_view_verdict : ViewVerdict → List ℕ
 spell_view_verdict v = spell_path v.view ++ spell_local v.verdict
 
--- two bytes of count and the verdicts
+-- the bytes of the verdicts of a response: two bytes of count, and then the verdicts
 abbrev pub spell_view_verdicts : List ViewVerdict → List ℕ
 spell_view_verdicts vs = to_be_bytes w16 (length vs) ++ flat_map spell_view_verdict vs
 
+-- the byte of a participant, its number
 abbrev pub spell_participant : ℕ → List ℕ
 spell_participant p = p ∷ []
 
--- the sender's byte, the place of the request and the verdicts
+-- the bytes of a response: its participant, eight bytes for the place of the request, and the verdicts
 abbrev pub spell_response : Response → List ℕ
 spell_response r = spell_participant r.from ++ (to_be_bytes w64 r.request ++ spell_view_verdicts r.verdicts)
 
--- a byte of count and a byte a participant
+-- the bytes of participants: a byte of count, and a byte for each
 abbrev pub spell_participants : List ℕ → List ℕ
 spell_participants ps = length ps ∷ flat_map spell_participant ps
 
+-- The bytes of a decision: the tag 0 of an approval, the tag 1 with participant, path and reason of a rejection, or the tag 2 with the participants
+-- that are missing.
 abbrev pub spell_decision : Decision → List ℕ
 spell_decision Approved = 0 ∷ []
 spell_decision (Rejected from view reason) = 1 ∷ (from ∷ (spell_path view ++ spell_reason reason))
 spell_decision (TimedOut missing) = 2 ∷ spell_participants missing
 
--- the place of the request and the decision
+-- the bytes of a mediator's verdict: eight for the place of the request, and then the decision
 abbrev pub spell_verdict : Verdict → List ℕ
 spell_verdict v = to_be_bytes w64 v.request ++ spell_decision v.decision

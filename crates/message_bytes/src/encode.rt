@@ -13,7 +13,7 @@ use ledger_terms::{Bytes, ParticipantId, ParticipantIdList, Path};
 use std::alloc::AllocError;
 use wire_form::encode_u64;
 
-/// Puts a path's spelling at the end.
+/// Puts the spelling of a path at the end of `out`. The error is want of memory.
 pub fn encode_path(path: &Path, out: &mut Bytes) -> Result<(), AllocError>
     requires { IsSpellablePath path.now }
     ensures { OnOk result (out.new ≡ out.old ++ spell_path path.now) }
@@ -79,7 +79,7 @@ fn encode_view_verdicts(verdicts: &ViewVerdictList, out: &mut Bytes) -> Result<(
     Ok(())
 }
 
-/// Puts a response's spelling at the end.
+/// Puts the spelling of a response at the end of `out`. The error is want of memory.
 pub fn encode_response(response: &Response, out: &mut Bytes) -> Result<(), AllocError>
     requires { IsSpellableResponse response.now }
     ensures { OnOk result (out.new ≡ out.old ++ spell_response response.now) }
@@ -137,7 +137,7 @@ fn encode_decision(decision: &Decision, out: &mut Bytes) -> Result<(), AllocErro
     }
 }
 
-/// Puts a verdict's spelling at the end.
+/// Puts the spelling of a mediator's verdict at the end of `out`. The error is want of memory.
 pub fn encode_verdict(verdict: &Verdict, out: &mut Bytes) -> Result<(), AllocError>
     requires { IsSpellableVerdict verdict.now }
     ensures { OnOk result (out.new ≡ out.old ++ spell_verdict verdict.now) }

@@ -6,7 +6,7 @@ ghost use Rattle.message_bytes.specs.Reading.{path_at, response_at, verdict_at};
 ghost use Rattle.message_bytes.specs.Spellable.{IsSpellablePath, IsSpellableResponse, IsSpellableVerdict};
 ghost use Rattle.message_bytes.specs.Spelling.{spell_path, spell_response, spell_verdict};
 
-/// No spelling begins another, so bytes that begin with a spelling begin with only one.
+/// No spelling of a value in range begins that of another, so bytes that begin with a spelling begin with only one.
 pub fn none_begins_another()
     ensures paths { NoneBeginsAnother spell_path IsPath }
     ensures responses { (most : ℕ) → NoneBeginsAnother spell_response (IsResponse most) }
@@ -20,7 +20,7 @@ pub fn one_spelling()
     ensures verdicts { (most : ℕ) → HasOneSpelling spell_verdict (IsVerdict most) (verdict_at most) }
 {}
 
-/// What a decoder gives can be encoded.
+/// What is in range, as all that a decoder gives is, has room in a spelling and so can be encoded again.
 pub fn in_range_is_spellable()
     ensures paths { IsEnoughFor IsPath IsSpellablePath }
     ensures responses { (most : ℕ) → IsEnoughFor (IsResponse most) IsSpellableResponse }

@@ -1,4 +1,5 @@
-//! Reading paths, responses and verdicts from the front of bytes, also where they stand inside another format.
+//! Reading paths, responses and verdicts from the front of bytes, also where they stand inside another format. A fault Left has how many bytes are
+//! left at the first field that can't be read; the other fault is want of memory. Participants are numbers from 0 to `most`.
 ghost use Rattle.std.specs.Prelude.{◌≡◌, []};
 ghost use Rattle.std.specs.Int.{w16};
 ghost use Rattle.wire_form.specs.Formats.{Gives, any_item, items_at, one_more};
@@ -14,7 +15,7 @@ use ledger_terms::{ParticipantId, ParticipantIdList, Path};
 use std::alloc::Global;
 use wire_form::{Reader, ReaderFault};
 
-/// Reads a path of at most 16 steps.
+/// Reads a path, a count of at most 16 and its steps; the fault Left at the first field that is no part of one.
 #[tactic(auto, unfolding(crate::specs::Reading::path_at))]
 pub fn read_path(reader: &mut Reader<'_>, alloc: Global) -> Result<Path, ReaderFault>
     ensures { Gives (λ x. (x, reader.new)) result (path_at reader.old) }
@@ -155,7 +156,7 @@ fn read_next_verdict(
     Ok(())
 }
 
-/// Reads a response of a participant up to `most`.
+/// Reads a response of a participant up to `most`; the fault Left at the first field that is no part of one.
 #[tactic(auto, unfolding(crate::specs::Reading::response_at))]
 pub fn read_response(
     reader: &mut Reader<'_>,
@@ -264,7 +265,7 @@ fn read_tagged_decision(
     }
 }
 
-/// Reads a verdict, which names participants up to `most`.
+/// Reads a mediator's verdict, which names participants up to `most`; the fault Left at the first field that is no part of one.
 #[tactic(auto, unfolding(crate::specs::Reading::verdict_at))]
 pub fn read_verdict(
     reader: &mut Reader<'_>,

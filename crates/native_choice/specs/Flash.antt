@@ -10,17 +10,18 @@ use Rattle.lang_eval.specs.declared.eval_fault.EvalFault.{EvalFault}
 use Rattle.lang_eval.specs.Builtin.{archive_name, note_template_name}
 use Rattle.lang_eval.specs.Next.{exercise_step, id_in, value_seen}
 
--- a name that isn't bound has the value Unit
+-- the value of a field that was looked up; Unit where there is none, as of a name that isn't bound
 abbrev pub value_or_unit : Option Value → Value
 value_or_unit None = UnitValue
 value_or_unit (Some v) = v
 
--- the fields of the note that is created: the same owner, the same reader, and a text
+-- the fields of the note that Flash creates: the owner and the reader of the note with these fields, and the text `flash`
 abbrev pub second_note : List Value → List Value
 second_note fields =
     value_or_unit (slice_get fields 0) ∷ value_or_unit (slice_get fields 1) ∷ TextValue (codes "flash") ∷ []
 
--- the step after the children so far: the second note is created, then archived, and then the choice is done, with no result
+-- What Flash does next in a call, after what its children so far gave: it creates the second note, then archives it, and then is done with
+-- Unit. A first child that gives no contract, as none does that was asked for, gives Assert.
 abbrev pub flash_next : ChoiceCall → List ChildResult → Result Step EvalFault
 flash_next call [] = Ok (Create note_template_name (second_note call.instance.fields))
 flash_next call (note ∷ []) = exercise_step note_template_name archive_name (id_in (value_seen note)) (Ok [])

@@ -27,7 +27,7 @@ impl Model for FlashNative {
 }
 
 impl FlashNative {
-    /// The native, with the text of its choice.
+    /// The native, with the text of Flash in the contract language. It keeps the allocator for its answers.
     pub fn new(alloc: Global) -> Result<FlashNative, AllocError> {
         let body = flash_choice(alloc)?;
         Ok(FlashNative { alloc, body })

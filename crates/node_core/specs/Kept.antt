@@ -9,8 +9,8 @@ use Rattle.world_model.specs.Node.{owes_at, waits_at}
 use Rattle.node_core.specs.Duties.{AreToDistinct, Kept, IsPassed}
 use Rattle.node_core.specs.Participant.{is_received_decided, places_where}
 
--- What a participant keeps fits its inbox. The owed places are those of all requests to which it owes verdicts, and the passed ones among them
--- are decided or claimed. Each claimed place is an owed one. Each unfinished place is claimed, and so is each to which a response waits. No
+-- The duties (`kept`) of participant p fit its inbox. The owed places are those of all requests to which it owes verdicts, and the passed ones among
+-- them are decided or claimed. Each claimed place is an owed one. Each unfinished place is claimed, and so is each to which a response waits. No
 -- response waits to an unfinished place, and no two wait to one place.
 pub record IsKept (reading : Reading) (params : Params) (p : ParticipantId) (items : List Item) (kept : Kept) : Type 0 where
   pub owed : kept.owed ≡ places_where (owes_at reading p items) 0 (length items)

@@ -14,24 +14,24 @@ use Rattle.world_model.specs.Rounds.{Why}
 use Rattle.node_core.specs.Participant.{Participant as NodeValue, reading_of}
 use Rattle.node_core.specs.Preparing.{offered}
 
--- what a participant with these items offers: its active contracts at its cursor
+-- The contracts that participant p offers with these items, if it has forgotten nothing: its active contracts at its cursor.
 abbrev pub offered_in : Topology → Packages → Offered
 offered_in topology packages p items = offered (framed_reading topology packages) p items
 
--- the request that a submission wants over its participant's inbox, where it wants one
+-- The request that a submission wants at the time `now`, in microseconds, over the items of its participant, and None where it wants none.
 abbrev pub wanted_request : Topology → Packages → Submission → List Item → (now : ℕ) → Option Request
 wanted_request topology packages = prepare_over topology packages (offered_in topology packages)
 
--- The machine of a synchroniser with this topology, these packages and this capacity. It reads framed requests, prepares submissions over what
--- participants offer, and has a participant for each host.
+-- The machine of a synchroniser with this topology, these packages and this capacity of its log. It reads framed requests, prepares submissions over
+-- what participants offer, and has a participant for each host.
 abbrev pub machine_of : Topology → Packages → (capacity : ℕ) → Machine
 machine_of topology packages capacity = machine_over topology packages capacity (offered_in topology packages)
 
--- why a submission wants no request, where it wants none
+-- Why a submission wants no request over its participant's items at a time, where it wants none.
 abbrev pub why_of : Topology → Packages → Why SubmitFault
 why_of topology packages = why_over topology packages (offered_in topology packages)
 
--- the node is participant p of the machine
+-- The node is participant p of the machine: it reads requests, has the times and prepares submissions as the machine does.
 pub record IsNodeOf (m : Machine) (p : ParticipantId) (node : NodeValue) : Type 0 where
   pub reading : reading_of node ≡ m.reading
   pub params : (node.topology).params ≡ m.params

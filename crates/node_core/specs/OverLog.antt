@@ -6,15 +6,15 @@ use Rattle.world_model.specs.Node.{NodeState, waits_at}
 use Rattle.pruned_inbox.specs.Forgotten.{silent_front}
 use Rattle.node_core.specs.Participant.{IsPrunedTo, Participant, items_of, owes_there, reading_of, whole_state}
 
--- the inbox of all that it has read of a log
+-- The whole inbox of a participant, as the log gives it for the entries that the participant has read.
 abbrev pub inbox_over : List Entry → Participant → List Item
 inbox_over log p = inbox (reading_of p) p.me (take (length (items_of p)) log)
 
--- the participant's state, had it kept all items of the entries that it has read
+-- The participant's state, had it kept all items of the entries of the log that it has read.
 abbrev pub state_over : List Entry → Participant → NodeState
 state_over log p = whole_state p (inbox_over log p)
 
--- the items that a participant keeps of a whole inbox: silent ones below its base, and those from there on
+-- The items that a participant keeps of its whole inbox: silent ones below its base, and those from there on.
 abbrev pub kept_of : Participant → List Item → List Item
 kept_of p whole = silent_front p.base p.base_time ++ drop p.base whole
 

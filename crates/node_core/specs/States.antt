@@ -21,27 +21,29 @@ use Rattle.node_inbox.specs.Raw.{AreCame, IsCame, item_by}
 use Rattle.node_core.specs.Duties.{AreToDistinct}
 use Rattle.node_core.specs.Participant.{IsPrunedTo, Participant, items_of, owes_there}
 
--- what its inbox left at its base
+-- What the inbox left at its base, as a state has it.
 abbrev pub start_in : State → Start
 start_in state = record { active = state.active; gone = state.gone }
 
--- its items, behind as many silent ones as stand below its base
+-- The items of the participant of a state, behind as many silent ones as stand below its base.
 abbrev pub items_in : Topology → State → List Item
 items_in topology state = silent_front state.base state.base_time ++ map (item_by topology) state.items
 
--- the responses to requests from a place on
+-- Those of the responses whose request stands at the base or behind it.
 abbrev pub responses_from : ℕ → List Response → List Response
 responses_from base outbox = filter (λ (response : Response). nat_le base response.request) outbox
 
+-- A participant's state with other claimed places.
 abbrev pub with_claimed : NodeState → List ℕ → NodeState
 with_claimed node claimed =
     record { items = node.items; is_paused = node.is_paused; claimed = claimed; unfinished = node.unfinished; outbox = node.outbox }
 
+-- A participant's state with another outbox.
 abbrev pub with_outbox : NodeState → List Response → NodeState
 with_outbox node outbox =
     record { items = node.items; is_paused = node.is_paused; claimed = node.claimed; unfinished = node.unfinished; outbox = outbox }
 
--- a participant that begins at the base of a state, with this of its own
+-- A participant that begins at the base of a state, with the start that it has, and with `node` for all that it keeps from there on.
 abbrev pub begun_with : Topology → Packages → State → NodeState → Participant
 begun_with topology packages state node =
     record {
@@ -54,7 +56,7 @@ begun_with topology packages state node =
       state = node;
     }
 
--- the participant that has nothing unfinished and of which that is the state
+-- The participant that has nothing unfinished and of which `state` is the state.
 abbrev pub owner_of : Topology → Packages → State → Participant
 owner_of topology packages state =
     begun_with topology packages state
@@ -66,7 +68,7 @@ owner_of topology packages state =
       outbox = state.outbox;
     })
 
--- one that begins there before anything of the state comes
+-- A participant that begins at the base of a state before it takes up any item, claim or response of it.
 abbrev pub read_nothing : Topology → Packages → State → Participant
 read_nothing topology packages state =
     begun_with topology packages state
@@ -85,7 +87,7 @@ begun_again topology packages state =
       outbox = responses_from state.base state.outbox;
     })
 
--- the job of the request at a place, at or after a base, was finished and not put back since
+-- Whether the job of place k, which is at the base or behind it, was finished and not put back since.
 abbrev pub is_done_from : (base : ℕ) → NodeState → ℕ → Bool
 is_done_from base node k = (nat_le base k && has_place node.claimed k) && not (has_place node.unfinished k)
 
@@ -106,14 +108,15 @@ pub record IsStateOf (p : Participant) (state : State) : Type 0 where
   pub waiting : (k : ℕ) → p.base ≤ k → waits_at state.outbox k ≡ true → has_place state.done k ≡ true
   pub once : AreToDistinct state.outbox
 
--- These may come behind what stands before, one behind the other: they aren't too many, and each is later than those before it.
+-- These items of a state may be put behind the items `before` one after another: they aren't too many, each is later than those before it, and
+-- each may come there.
 pub record AreToCome (topology : Topology) (packages : Packages) (me : ParticipantId) (before : List Item) (items : List StateItem) : Type 0 where
   pub few : length before + length items < 2 ^ 63
   pub rises : (k : ℕ) (item : StateItem) → slice_get items k ≡ Some item → last_time (before ++ map (item_by topology) (take k items)) < item.time
   pub came : (k : ℕ) (item : StateItem) → slice_get items k ≡ Some item
       → IsCame topology packages me (before ++ map (item_by topology) (take k items)) item.what
 
--- A response to the request at a place may come to wait: that is claimed and not unfinished, and none waits to it.
+-- A response to the request at place k may be put into the outbox: k is claimed and not unfinished, and no response waits to it yet.
 pub record MayWait (node : NodeState) (k : ℕ) : Type 0 where
   pub claimed : has_place node.claimed k ≡ true
   pub finished : has_place node.unfinished k ≡ false

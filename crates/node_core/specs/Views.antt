@@ -11,7 +11,7 @@ use Rattle.pruned_inbox.specs.Start.{Start, active_kept}
 use Rattle.node_core.specs.Participant.{Participant, items_of, params_of, reading_of}
 use Rattle.node_core.specs.declared.node_view.NodeView.{NodeView}
 
--- what a participant knows over its inbox
+-- What is reported of participant p over its whole inbox.
 abbrev pub view_over : Reading → Params → ParticipantId → List Item → NodeView
 view_over reading params p items =
     record {
@@ -23,7 +23,8 @@ view_over reading params p items =
       active = node_active reading p items (clean params items);
     }
 
--- the same without the withheld places and the commits below a base
+-- What is reported of a participant, by what is known of it over its whole inbox (`view`): without the withheld places and the commits below its
+-- base, and with that base.
 abbrev pub view_since : (base : ℕ) → NodeView → NodeView
 view_since base view =
     record {
@@ -35,16 +36,16 @@ view_since base view =
       active = view.active;
     }
 
--- the same, where there is a base, and else the view as it is
+-- What is reported of a participant: the same as `view`, where it has no base that is told (None), and else that without what stands below the base.
 abbrev pub view_from : (pruned : Option ℕ) → NodeView → NodeView
 view_from None view = view
 view_from (Some base) view = view_since base view
 
--- the base as it is reported: only of a participant that restarted
+-- The base as it is reported: only of a participant that restarted, and None of any other.
 abbrev pub base_if : (restarted : Bool) → (base : ℕ) → Option ℕ
 base_if restarted base = if restarted then Some base else None
 
--- what a participant knows over an inbox that left this at its base
+-- What is reported of participant p over the items that it keeps, where its inbox left the start at its base. `pruned` is the base, where one is reported.
 abbrev pub view_kept : Reading → Params → ParticipantId → (pruned : Option ℕ) → Start → List Item → NodeView
 view_kept reading params p pruned start items =
     record {
@@ -56,19 +57,22 @@ view_kept reading params p pruned start items =
       active = active_kept reading p start items (clean params items);
     }
 
+-- What is reported of a participant, with its base told where it `restarted`.
 abbrev pub view_of : (restarted : Bool) → Participant → NodeView
 view_of restarted p = view_kept (reading_of p) (params_of p) p.me (base_if restarted p.base) p.start (items_of p)
 
--- what so many participants, from this one on, know over a whole log, each pruned to its base, if it was
+-- What is reported of `count` participants from participant p on over a whole log, in order: each without what stands below its base, where
+-- `pruned` gives it one.
 abbrev pub views_from : Reading → Params → List Entry → (pruned : ParticipantId → Option ℕ) → ParticipantId → (count : ℕ) → List NodeView
 views_from reading params log pruned p zero = []
 views_from reading params log pruned p (suc count) =
     view_from (pruned p) (view_over reading params p (inbox reading p log)) ∷ views_from reading params log pruned (suc p) count
 
--- what each participant knows over a whole log, in order of the topology
+-- What is reported of all `hosts` participants over a whole log, in order of the topology: each without what stands below its base, where
+-- `pruned` gives it one.
 abbrev pub views_over : Reading → Params → List Entry → (pruned : ParticipantId → Option ℕ) → (hosts : ℕ) → List NodeView
 views_over reading params log pruned hosts = views_from reading params log pruned 0 hosts
 
--- the active contracts of each participant
+-- The active contracts of each participant, by what is reported of them, in the same order.
 abbrev pub actives_in : List NodeView → List (List ActiveRow)
 actives_in views = map (λ (view : NodeView). view.active) views

@@ -22,6 +22,7 @@ fn copy_verdicts(alloc: Global, verdicts: &[ViewVerdict]) -> Result<ViewVerdictL
     Ok(copy)
 }
 
+/// A copy of a response.
 pub fn copy_response(alloc: Global, response: &Response) -> Result<Response, AllocError>
     ensures { IfOk result (λ copy. copy ≡ response.now) }
 {
@@ -78,7 +79,7 @@ pub fn copy_item(item: &Item) -> Result<Item, AllocError>
     })
 }
 
-/// Puts copies of responses behind others.
+/// Puts copies of the responses behind those in `copies`.
 pub fn push_copies(
     alloc: Global,
     responses: &[Response],
@@ -101,7 +102,7 @@ pub fn copy_responses(alloc: Global, responses: &[Response]) -> Result<ResponseL
     Ok(copies)
 }
 
-/// What a decision makes of a request, over so many entries.
+/// What a participant that has read so many entries (`read_to`) says of its own request on which this decision came.
 pub fn completion_by(decision: &Decision, read_to: u64) -> Result<Completion, AllocError>
     ensures { IfOk result (λ completion. completion ≡ of_decision read_to decision.now) }
 {

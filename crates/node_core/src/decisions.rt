@@ -3,7 +3,7 @@ ghost use Rattle.std.specs.Prelude.{◌≡◌};
 
 use node_inbox::Inbox;
 
-/// Tells which requests are decided, over what was read.
+/// Tells which requests are decided, over what was read, so that duties needn't know the inbox.
 pub trait Decisions {
     ghost use Rattle.std.specs.Prelude.{ℕ, Bool};
 

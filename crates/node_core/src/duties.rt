@@ -17,7 +17,7 @@ use node_state::ResponseList;
 use std::alloc::{AllocError, Global};
 use std::marker::Model;
 
-/// The requests that a participant owes verdicts to, what it has claimed of them, and the responses that wait.
+/// The duties of a participant: the places of the requests to which it owes verdicts, what it has claimed of them, and the responses that wait.
 #[derive(Drop)]
 pub struct Duties {
     // Rising places.
@@ -81,6 +81,7 @@ fn places_below(owed: &[u64], place: u64) -> usize
 }
 
 impl Duties {
+    /// The duties of a participant that has read nothing.
     pub fn new(alloc: Global) -> Duties
         ensures { result ≡ with_room nothing_kept result.room }
     {
@@ -93,7 +94,7 @@ impl Duties {
         }
     }
 
-    /// Makes room for one more owed place.
+    /// Makes room for one more owed place. An error leaves all as it was.
     pub fn reserve(&mut self) -> Result<(), AllocError>
         ensures same { self.new ≡ with_room self.old self.new.room }
         ensures room { OnOk result (0 < self.new.room) }
@@ -101,7 +102,7 @@ impl Duties {
         self.owed.reserve(1)
     }
 
-    /// It owes verdicts to the request at a place.
+    /// Notes that the participant owes verdicts to the request at a place, which is behind the owed ones. Takes no memory.
     pub fn owe(&mut self, place: u64)
         requires room { 0 < self.old.room }
         requires last { All (λ k. k ≤ place) self.old.owed }
@@ -110,7 +111,7 @@ impl Duties {
         self.owed.push_within(place);
     }
 
-    /// The first owed place that is neither decided nor claimed.
+    /// The first owed place that is neither decided nor claimed, and none where there is no such place. How far it looked is kept for the next time.
     pub fn next_place<D: Decisions>(&mut self, decisions: &D) -> Option<u64>
         requires { IsPassed (D.decided decisions.now) self.old }
         ensures place { result ≡ find (is_free (D.decided decisions.now) self.old.claimed) self.old.owed }
@@ -121,7 +122,7 @@ impl Duties {
         self.owed.get(self.passed).copied()
     }
 
-    /// Claims a place, with room for its response.
+    /// Claims a place, with room for its response. An error leaves all as it was.
     pub fn claim(&mut self, place: u64) -> Result<(), AllocError>
         requires { has_place self.old.claimed place ≡ false }
         ensures ok { OnOk result (self.new ≡ with_claim self.old place) }
@@ -133,7 +134,7 @@ impl Duties {
         Ok(())
     }
 
-    /// Finishes the unfinished job of the response's request: the response waits from now on.
+    /// Finishes the unfinished job of the response's request: the response waits from now on. Takes no memory.
     pub fn finish(&mut self, response: Response)
         requires { has_place self.old.unfinished response.request ≡ true }
         ensures { self.new ≡ with_response self.old response }
@@ -143,7 +144,7 @@ impl Duties {
         self.outbox.push_within(response);
     }
 
-    /// Takes up the claim of a place whose job was finished before the participant began again.
+    /// Takes up the claim of a place whose job was finished before the participant began again. An error leaves all as it was.
     pub fn claim_done(&mut self, place: u64) -> Result<(), AllocError>
         requires { has_place self.old.claimed place ≡ false }
         ensures ok { OnOk result (self.new ≡ with_done self.old place) }
@@ -154,7 +155,7 @@ impl Duties {
         Ok(())
     }
 
-    /// Takes up a response that waited before the participant began again.
+    /// Takes up a response that waited before the participant began again. An error leaves all as it was.
     pub fn wait(&mut self, response: Response) -> Result<(), AllocError>
         ensures ok { OnOk result (self.new ≡ with_waiting self.old response) }
         ensures err { OnErr result (self.new ≡ self.old) }
@@ -164,7 +165,7 @@ impl Duties {
         Ok(())
     }
 
-    /// The places from one on whose job is done, rising.
+    /// The owed places at or after `from` whose job is done, ascending.
     pub fn done(&self, alloc: Global, from: u64) -> Result<U64List, AllocError>
         ensures { IfOk result (λ done. done ≡ filter (is_done from self.now) self.now.owed) }
     {
@@ -196,7 +197,7 @@ impl Duties {
         self.unfinished.iter().any(|k| place == *k)
     }
 
-    /// Takes back the claim of a place and its response.
+    /// Takes back the claim of a place and its response, so that the place can be claimed again. Takes no memory.
     pub fn put_back(&mut self, place: u64)
         ensures state { self.new ≡ without_claim self.old place self.new.passed }
         ensures passed { (decided : ℕ → Bool) → IsPassed decided self.old → IsPassed decided self.new }
@@ -207,7 +208,7 @@ impl Duties {
         self.outbox.remove(place);
     }
 
-    /// The first response in order of place whose request isn't decided.
+    /// The response to the least place among those that wait and whose request isn't decided, and none where there is none.
     pub fn first_waiting<D: Decisions>(&self, decisions: &D) -> Option<&Response>
         ensures { option_copied result ≡ first_waiting (D.decided decisions.now) self.now.outbox }
     {

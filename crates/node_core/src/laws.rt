@@ -141,8 +141,9 @@ pub fn restarted_participants_are_pruned()
         → IsStateOf (with_state p (put_back p.state k)) state }
 {}
 
-/// The state of a participant that has read a genuine log, and is pruned to its base, is lawful. A lawful state that is pruned is lawful again,
-/// and a participant may begin again from each lawful state.
+/// The state of a participant that has read a genuine log, and is pruned to its base, is lawful. A lawful state that is pruned is lawful again, and a
+/// participant may begin again from each lawful state. For `prune` it says besides that this participant may stand for the state's own, but for the
+/// responses, which the pruned state takes from the state.
 pub fn lawful_states_may_begin()
     ensures lawful { (p : Participant) (log : List Entry) (state : State)
         → length log < 2 ^ 63

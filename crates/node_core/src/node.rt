@@ -103,21 +103,21 @@ impl<'s> Node<'s> {
         self.me
     }
 
-    /// The place from which on it has what it read. Takes no memory.
+    /// The place below which it has forgotten what it read. It is 0 where it has forgotten nothing. Takes no memory.
     pub fn base(&self) -> u64
         ensures { result ≡ self.now.base }
     {
         self.inbox.base()
     }
 
-    /// How many entries it has read.
+    /// How many entries it has read, with those that are forgotten: the place of the next one.
     pub fn cursor(&self) -> u64
         ensures { result ≡ length (items_of self.now) }
     {
         self.inbox.cursor()
     }
 
-    /// How many entries stand before the first request received that isn't decided at the cursor.
+    /// Its clean place: the place of the first request received that isn't decided at the cursor, and the cursor where there is none.
     pub fn clean(&self) -> u64
         ensures { result ≡ clean (params_of self.now) (items_of self.now) }
     {
@@ -138,13 +138,14 @@ impl<'s> Node<'s> {
         self.is_paused
     }
 
+    /// Pauses it, so that it takes no submissions, or ends the pause. It reads and answers in a pause, too, where it is asked to.
     pub fn set_paused(&mut self, paused: bool)
         ensures { self.new ≡ with_state self.old (with_flag self.old.state paused) }
     {
         self.is_paused = paused;
     }
 
-    /// Reads the slip's entry, which stands at the cursor. It takes all memory before it changes anything.
+    /// Reads the slip's entry, which stands at the cursor. Takes all memory before it changes anything, so an error leaves it as it was.
     pub fn read(&mut self, slip: &Slip<'_>) -> Result<(), AllocError>
         requires { CanRead self.old slip.now.list }
         ensures ok { OnOk result ((before : List Entry) (entry : Entry) → slip.now.list ≡ before ++ entry ∷ []
@@ -161,8 +162,8 @@ impl<'s> Node<'s> {
         Ok(())
     }
 
-    /// Claims the first request that it owes verdicts to, which is undecided at the cursor and not claimed, and gives the job of
-    /// checking it. After want of memory nothing is claimed.
+    /// Claims the first request that it owes verdicts to and that is undecided at the cursor and not claimed, and gives the job of checking it. None
+    /// where there is no such request. After want of memory nothing is claimed.
     pub fn claim_job(&mut self, alloc: Global) -> Result<Option<ValidateJob<'s>>, AllocError>
         ensures place { IfOk result (λ o. option_map (λ job. job.given.place) o ≡ next_place self.old) }
         ensures verdicts { IfOk result (λ o. IfSome o (λ job. owed_on_each job.given.input job.given.views ≡ owed_there self.old job.given.place)) }
@@ -179,8 +180,8 @@ impl<'s> Node<'s> {
         Ok(Some(job))
     }
 
-    /// Puts the response into the outbox, without memory. Where the request is decided at the cursor the job comes too late, and
-    /// all is as before: the place is still claimed and unfinished.
+    /// Puts the response with the verdicts of a job that has ended into the outbox. Takes no memory. Where the request is decided at the cursor the
+    /// job comes too late, and all is as before: the place is still claimed and unfinished.
     pub fn finish_job(&mut self, done: Finished) -> Result<(), Cancelled>
         requires unfinished { has_place self.old.state.unfinished done.place ≡ true }
         requires verdicts { done.verdicts ≡ owed_there self.old done.place }
@@ -204,8 +205,8 @@ impl<'s> Node<'s> {
         Ok(())
     }
 
-    /// The least place up to the cursor at which the request that it received at a place is decided: the place behind its verdict, or where
-    /// the first entry after its decision time stands. Goes through what was read from the request on.
+    /// The least place up to the cursor at which the request that it received at `place` is decided: the place behind its verdict, or that of the
+    /// first entry after its decision time. None where the request is undecided. Goes through what was read from the request on.
     pub fn decided_at(&self, place: u64) -> Option<u64>
         requires { is_some (notice_at (items_of self.now) place) ≡ true }
         ensures undecided { IfNone result (is_decided_there self.now place ≡ false) }
@@ -218,14 +219,14 @@ impl<'s> Node<'s> {
         Some(self.inbox.decided_since(place))
     }
 
-    /// Whether a job of the request at a place was claimed and neither finished nor put back.
+    /// Whether the job of the request at a place was given out and neither finished nor put back.
     pub fn unfinished(&self, place: u64) -> bool
         ensures { result ≡ has_place self.now.state.unfinished place }
     {
         self.duties.is_unfinished(place)
     }
 
-    /// Gives up the claim of a request and the response to it, so that it is claimed again while it is undecided.
+    /// Gives up the claim of a request and the response to it, so that it is claimed again while it is undecided. Takes no memory.
     pub fn put_back(&mut self, place: u64)
         requires { owes_there self.old place ≡ true }
         ensures { self.new ≡ with_state self.old (put_back self.old.state place) }
@@ -233,7 +234,8 @@ impl<'s> Node<'s> {
         self.duties.put_back(place);
     }
 
-    /// A copy of the first response in order of place whose request is undecided at the cursor.
+    /// A copy of the response that is to be sent next: that to the least place among those in the outbox whose request is undecided at the cursor.
+    /// None where there is none.
     pub fn outbox(&self, alloc: Global) -> Result<Option<Response>, AllocError>
         ensures { IfOk result (λ response. response ≡ next_response self.now) }
     {
@@ -243,16 +245,16 @@ impl<'s> Node<'s> {
         }
     }
 
-    /// Takes the response to a request out of the outbox.
+    /// Takes the response to the request at the place `request` out of the outbox, since it was handed in or is lost. Takes no memory.
     pub fn sent(&mut self, request: u64)
         ensures { self.new ≡ with_state self.old (sent self.old.state request) }
     {
         self.duties.sent(request);
     }
 
-    /// The request that a submission of this participant wants over the contracts active at the cursor. `now` is the ledger time of
-    /// a submission that has none. A choice that `natives` has is asked of them in place of the language. Memory is that of the
-    /// submission.
+    /// The request that a submission of this participant wants over the contracts active at the cursor, or the first fault. `now` is the ledger time,
+    /// in microseconds, of a submission that has none. A choice that `natives` has is asked of them in place of the language. Memory is taken from
+    /// where the submission has its own.
     pub fn prepare(
         &self,
         natives: &NativeList,
@@ -282,14 +284,15 @@ impl<'s> Node<'s> {
         prepare_request::prepare(self.setup, natives, self.me, &known, what, now)
     }
 
-    /// The approved requests before the clean place, as they are opened to it.
+    /// The commits of the approved requests below the clean place, as they are opened to it, without those of which nothing is.
     pub fn applied(&self, alloc: Global) -> Result<CommitList, AllocError>
         ensures { IfOk result (λ commits. commits ≡ node_log (params_of self.now) (items_of self.now)) }
     {
         self.inbox.applied(alloc)
     }
 
-    /// What `applied` answers, out of the participant itself. What nobody else looks at isn't copied.
+    /// The commits of the approved requests below the clean place, as they are opened to it, without those of which nothing is. They are made of the
+    /// participant itself: actions that nobody else looks at are moved and not copied.
     pub fn into_applied(self) -> Result<CommitList, AllocError>
         ensures { IfOk result (λ commits. commits ≡ node_log (params_of self.entry) (items_of self.entry)) }
     {
@@ -297,7 +300,7 @@ impl<'s> Node<'s> {
         inbox.into_applied()
     }
 
-    /// The places of the approved requests before the clean place of which it sees a view and has no complete envelope.
+    /// The places that are withheld from it, ascending: approved requests below the clean place of which it sees a view and has no complete envelope.
     pub fn withheld(&self) -> Result<U64List, AllocError>
         ensures { IfOk result (λ places. places ≡ withheld (params_of self.now) (items_of self.now)) }
     {
@@ -327,7 +330,7 @@ impl<'s> Node<'s> {
         self.inbox.active_at(alloc, place)
     }
 
-    /// What became of a request that it received, over what it has read.
+    /// What became of a request that it received at a place, over what it has read.
     pub fn completion_of(&self, place: u64) -> Result<Completion, AllocError>
         requires { is_some (notice_at (items_of self.now) place) ≡ true }
         ensures { IfOk result (λ c. c ≡ completion_of (length (items_of self.now)) (outcome_in (params_of self.now) (items_of self.now) place)) }

@@ -37,7 +37,7 @@ fn base_if(restarted: bool, base: u64) -> Option<u64>
 }
 
 impl NodeView {
-    /// What a participant knows over what it has read. Goes through the requests below the clean place.
+    /// What is reported of a participant over what it has read, with its base where it `restarted`. Goes through the requests below the clean place.
     pub fn of(alloc: Global, node: &Node<'_>, restarted: bool) -> Result<NodeView, AllocError>
         ensures { IfOk result (λ view. view ≡ view_of restarted node.now) }
     {
@@ -51,7 +51,7 @@ impl NodeView {
         })
     }
 
-    /// The same of a participant that is wanted no more: what it opened is taken out of it.
+    /// What is reported of a participant that is wanted no more, with its base where it `restarted`. The opened actions are moved out of it and not copied.
     pub fn taken(alloc: Global, node: Node<'_>, restarted: bool) -> Result<NodeView, AllocError>
         ensures { IfOk result (λ view. view ≡ view_of restarted node.entry) }
     {

@@ -59,7 +59,7 @@ fn unless_decided<'a, D: Decisions>(decisions: &D, response: &'a Response) -> Op
     }
 }
 
-// The first in order of place whose request isn't decided.
+// The response to the least place among these whose request isn't decided.
 fn first_waiting<'a, D: Decisions>(decisions: &D, responses: &'a [Response]) -> Option<&'a Response>
     ensures { option_copied result ≡ first_waiting (D.decided decisions.now) responses.now }
 {
@@ -85,7 +85,7 @@ fn first_undecided<'a, D: Decisions>(
     None
 }
 
-// The same of two slices, one behind the other.
+// The first response of two slices, one behind the other, whose request isn't decided.
 fn first_of_both<'a, D: Decisions>(
     decisions: &D,
     front: &'a [Response],
@@ -139,6 +139,7 @@ fn remove_from(responses: &mut VecDeque<Response>, rises: bool, request: u64)
 }
 
 impl Outbox {
+    /// An empty outbox.
     pub fn new(alloc: Global) -> Outbox
         ensures { result.responses ≡ [] }
     {
@@ -148,7 +149,7 @@ impl Outbox {
         }
     }
 
-    /// Makes room for `more` responses.
+    /// Makes room for `more` responses beside those that wait. An error leaves the responses as they were.
     pub fn reserve(&mut self, more: usize) -> Result<(), AllocError>
         ensures responses { self.new.responses ≡ self.old.responses }
         ensures kept { self.old.capacity ≤ self.new.capacity }
@@ -157,7 +158,7 @@ impl Outbox {
         self.responses.reserve(more)
     }
 
-    /// Puts a response at the end, in room that was made ahead.
+    /// Puts a response behind the others, in room that was made ahead. Takes no memory.
     pub fn push_within(&mut self, response: Response)
         requires room { length self.old.responses < self.old.capacity }
         ensures responses { self.new.responses ≡ self.old.responses ++ response ∷ [] }
@@ -167,7 +168,7 @@ impl Outbox {
         self.responses.push_back_reserved(response);
     }
 
-    /// Takes the responses to a request out.
+    /// Takes the response to the request at the place `request` out, if one waits. Takes no memory.
     pub fn remove(&mut self, request: u64)
         ensures responses { self.new.responses ≡ without request self.old.responses }
         ensures capacity { self.new.capacity ≡ self.old.capacity }
@@ -178,7 +179,7 @@ impl Outbox {
         }
     }
 
-    /// Copies of the responses.
+    /// Copies of the responses, in the order in which they came.
     pub fn copied(&self, alloc: Global) -> Result<ResponseList, AllocError>
         ensures { IfOk result (λ copies. copies ≡ self.now.responses) }
     {
@@ -189,7 +190,7 @@ impl Outbox {
         Ok(copies)
     }
 
-    /// The first in order of place whose request isn't decided.
+    /// The response to the least place among those whose request isn't decided, and none where there is none.
     pub fn first_waiting<D: Decisions>(&self, decisions: &D) -> Option<&Response>
         ensures { option_copied result ≡ first_waiting (D.decided decisions.now) self.now.responses }
     {

@@ -10,7 +10,7 @@ pub struct NodeRemains {
 }
 
 impl NodeRemains {
-    /// The parts of a participant.
+    /// Puts together what a participant kept, of its parts.
     pub(crate) fn new(inbox: InboxRemains, duties: Duties) -> NodeRemains {
         NodeRemains { inbox, duties }
     }

@@ -9,14 +9,15 @@ use Rattle.interpret.specs.Ids.{is_authentic}
 use Rattle.confirm_reply.specs.declared.id_facts.IdFacts.{IdFacts}
 use Rattle.inbox_registry.specs.Registry.{Registered, known_status}
 
+-- Whether an action is a change, so that it creates or consumes its contract, and is authentic.
 abbrev pub is_authentic_change : Act → Bool
 is_authentic_change act = is_change act && is_authentic act
 
--- nothing is known of the contract that an action is on
+-- A fact on the contract of an action as long as nothing is known of the contract: it counts as unknown and as not held.
 abbrev pub blank_fact : Act → IdFacts
 blank_fact act = record { id = id_of act.action; status = Unknown; locked = false }
 
--- the fact on the same contract, by a registry: its status, and whether a request holds it
+-- What a registry says of the contract that a fact is on: its status, and whether an undecided request holds it. Of the given fact only the id is used.
 abbrev pub fact_in : Registered → IdFacts → IdFacts
 fact_in stands fact =
     record { id = fact.id; status = known_status stands.start (stands.store).rows fact.id; locked = is_held (stands.store).holds fact.id }

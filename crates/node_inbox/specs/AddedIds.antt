@@ -13,44 +13,50 @@ use Rattle.contract_store.specs.declared.row.StoreRow.{StoreRow}
 use Rattle.prepare_request.specs.Hosted.{is_among}
 use Rattle.inbox_registry.specs.declared.change.Change.{Change}
 
+-- Whether a status is Unknown.
 abbrev pub is_unknown : Status → Bool
 is_unknown Unknown = true
 is_unknown Active = false
 is_unknown Consumed = false
 
--- the store doesn't know the contract and no change before is on it
+-- Whether a contract with this id is new: it is unknown by the store's rows, and its id isn't among `changed`, those of the contracts that
+-- earlier changes are on.
 abbrev pub is_unheard : List StoreRow → (changed : List Hash) → Hash → Bool
 is_unheard rows changed id = is_unknown (status_in rows id) && not (is_among changed id)
 
--- a change is on the contract with this id
+-- Whether a change is on the contract with this id.
 abbrev pub is_on : Hash → Change → Bool
 is_on id change = bytes_eq id change.known.id
 
--- the change creates a contract that the store doesn't know and no change before is on
+-- Whether a change creates a contract that is unknown by the store's rows and that no earlier change is on. `changed` has the ids that
+-- earlier changes are on.
 abbrev pub is_new : List StoreRow → (changed : List Hash) → Change → Bool
 is_new rows changed change = change.is_create && is_unheard rows changed change.known.id
 
--- the id of a change's contract, where it is new and has a hosted stakeholder
+-- A list of the one id of a change's contract, where `is_new` is true and participant p hosts a stakeholder of the contract, and else no id.
 abbrev pub added_if : Reading → ParticipantId → (is_new : Bool) → Change → List Hash
 added_if reading p is_new change = if is_new && is_stakeholder_hosted reading p change.known.instance then change.known.id ∷ [] else []
 
--- the id of the contract that a change creates, where it is new and has a hosted stakeholder
+-- A list of the one id of the contract that a change creates, where the contract is new to the store's rows and to `changed`, the ids that earlier
+-- changes are on, and participant p hosts a stakeholder of it. Else no id.
 abbrev pub added_by : Reading → ParticipantId → List StoreRow → (changed : List Hash) → Change → List Hash
 added_by reading p rows changed change = added_if reading p (is_new rows changed change) change
 
--- The same of each of these changes, in order. `changed` are the contracts on which changes before these are.
+-- The ids of the new contracts with a stakeholder hosted by participant p that these changes create, in order. `changed` has the ids of the contracts
+-- that changes before these are on.
 abbrev pub added_behind : Reading → ParticipantId → List StoreRow → (changed : List Hash) → List Change → List Hash
 added_behind reading p rows changed [] = []
 added_behind reading p rows changed (change ∷ rest) =
     added_by reading p rows changed change ++ added_behind reading p rows (change.known.id ∷ changed) rest
 
--- each contract that one of these changes creates is one that neither the store knows nor a change before is on
+-- Whether each contract that one of these changes creates is unknown by the store's rows, and no change before is on it. `changed` has the ids of the
+-- contracts that changes before these are on.
 abbrev pub are_new : List StoreRow → (changed : List Hash) → List Change → Bool
 are_new rows changed [] = true
 are_new rows changed (change ∷ rest) =
     (not change.is_create || is_unheard rows changed change.known.id) && are_new rows (change.known.id ∷ changed) rest
 
--- the change creates a contract that is gone
+-- Whether a change creates a contract that is gone by the start.
 abbrev pub creates_gone : Start → Change → Bool
 creates_gone start change = change.is_create && is_gone start change.known.id
 

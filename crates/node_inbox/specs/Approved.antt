@@ -17,24 +17,25 @@ use Rattle.node_inbox.specs.declared.kept_item.KeptContent.TheVariants.{Received
 use Rattle.node_inbox.specs.declared.kept_item.KeptItem.{KeptItem}
 use Rattle.node_inbox.specs.declared.kept_item.KeptRequest.{KeptRequest}
 
--- what is tracked of each request is what became of it
+-- At each place the tracker of a registry has the outcome that the inbox gives the request there, and None where no request was received there.
 abbrev pub TellsOutcomes : Params → List Item → Registered → Type 0
 TellsOutcomes params items stands = (k : ℕ) → outcome_at (stands.tracking).pairs k ≡ outcome_received params items k
 
--- each request that is kept has the changes of what is opened of it
+-- Each request that these items keep has as its changes those among the authentic actions that its envelope opens.
 abbrev pub KeepChanges : List KeptItem → Type 0
 KeepChanges items = (k : ℕ) (request : KeptRequest) → kept_at items k ≡ Some request → (request.changes).items ≡ opened_changes request.offer
 
--- what is opened of a request, where there is one
+-- The trees of actions that are opened of a kept request, and no tree where there is no request.
 abbrev pub roots_kept : Option KeptRequest → Forest Act
 roots_kept None = NoRoots
 roots_kept (Some kept) = roots_offered kept.offer
 
--- the trees of the request at a place, where it is approved
+-- The trees of actions that are opened of the request at place k of an inbox, where it is approved by these items. Else there is no tree.
 abbrev pub approved_at : List Item → ℕ → Forest Act
 approved_at items k = if is_approved_in k (moments items) then opened_at items k else NoRoots
 
--- The commit of the item at a place: what is opened of the request there, where it is approved and something is opened, and else none.
+-- The commit of the item at a place, as a list of one: what is opened of the request there, where it is approved (`approved`) and something is opened
+-- of it. Else no commit.
 abbrev pub part_of : Bool → ℕ → KeptContent → List Commit
 part_of approved place (Received kept) = part_if true place (if approved then roots_offered kept.offer else NoRoots)
 part_of approved place (Told verdict) = []

@@ -25,12 +25,14 @@ use Rattle.node_inbox.specs.declared.kept_item.KeptRequest.{KeptRequest}
 use Rattle.node_inbox.specs.declared.kept_offer.KeptOffer.{KeptOffer}
 use Rattle.node_inbox.specs.declared.telling.ComingVerdict.{ComingVerdict}
 
--- The facts are on the contracts of the opened actions, of which nothing is known yet, and the changes are those of these actions.
+-- What is made of a kept offer before its request is read. The facts are on the contracts of the opened actions, and blank, since nothing is known
+-- yet. The changes are those of the authentic ones among these actions.
 pub record AreParts (offer : KeptOffer) (facts : List IdFacts) (changes : List Change) : Type 0 where
   pub facts_are : facts ≡ map blank_fact (acts (roots_offered offer))
   pub changes_are : changes ≡ opened_changes offer
 
--- What is kept of a request is what a notice has of it, and the participant's envelope.
+-- What participant `me` keeps of a request is the request's sender and command, what the notice that was read of it has, and the envelope that
+-- is addressed to `me`.
 pub record IsKeptOf (me : ParticipantId) (request : Request) (notice : Notice) (kept : KeptRequest) : Type 0 where
   pub sender : kept.sender ≡ request.sender
   pub command : kept.command ≡ request.command
@@ -40,17 +42,18 @@ pub record IsKeptOf (me : ParticipantId) (request : Request) (notice : Notice) (
   pub envelope : kept.envelope ≡ envelope_to me request.envelopes
   pub offer : as_offered kept.offer ≡ notice.offered
 
--- What is kept of a request of which the participant is a recipient, before it is read. Nothing is known yet of its contracts.
+-- What is kept of a request of which the participant is a recipient, before it is put into the inbox: its facts are still blank, and beside it are
+-- the ids of the contracts of its changes, which it will hold.
 pub record IsComing (topology : Topology) (packages : Packages) (me : ParticipantId) (coming : ComingRequest) : Type 0 where
   pub came : Came topology packages me coming.kept
   pub parts : AreParts (coming.kept).offer (coming.kept).facts ((coming.kept).changes).items
   pub ids : coming.ids ≡ map id_in ((coming.kept).changes).items
 
--- the outcome by a verdict, where it is the first on its request
+-- The outcome that a verdict gives its request, and None where a verdict on that request stands among the items already.
 abbrev pub first_outcome : List Item → Verdict → Option Kind
 first_outcome items verdict = if is_some (verdict_on verdict.request (moments items)) then None else Some (kind_of (Decided verdict.decision))
 
--- a verdict came on the request
+-- Whether an outcome comes of a verdict. It is false of None, where no request was received, and of the outcomes Undecided and Expired.
 abbrev pub is_told : Option Kind → Bool
 is_told None = false
 is_told (Some kind.Undecided) = false
@@ -59,8 +62,8 @@ is_told (Some kind.Rejected) = true
 is_told (Some kind.TimedOut) = true
 is_told (Some kind.Expired) = false
 
--- A verdict on a request that was received, before it is read: the outcome that it gives, where it is the first on the request, and the
--- changes that it makes.
+-- What comes of a verdict on a request that was received, before it is put into the inbox: the outcome that it gives, where it is the first on its
+-- request, and the changes that it makes. Only a first verdict that approves makes any.
 pub record IsTelling (reading : Reading) (items : List Item) (verdict : Verdict) (coming : ComingVerdict) : Type 0 where
   pub received : is_some (notice_at items verdict.request) ≡ true
   pub verdict_is : coming.verdict ≡ verdict

@@ -3,6 +3,7 @@ use Rattle.std.specs.Prelude.{Bool, true, false, Option, Some, None}
 use Rattle.canton_model.specs.declared.outcome.Outcome.{Outcome as Kind}
 use Rattle.canton_model.specs.declared.outcome.Outcome.TheVariants as kind
 
+-- Whether an outcome is that of a decided request. It is false of None, where no request was received, and of an undecided request.
 abbrev pub is_closed : Option Kind → Bool
 is_closed None = false
 is_closed (Some kind.Undecided) = false
@@ -11,7 +12,8 @@ is_closed (Some kind.Rejected) = true
 is_closed (Some kind.TimedOut) = true
 is_closed (Some kind.Expired) = true
 
--- no verdict came on the request
+-- Whether an outcome is that of a received request on which no verdict came: it is undecided, or it expired. Of None, where no request was
+-- received, it is false.
 abbrev pub is_without_verdict : Option Kind → Bool
 is_without_verdict None = false
 is_without_verdict (Some kind.Undecided) = true

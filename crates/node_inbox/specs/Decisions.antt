@@ -3,8 +3,9 @@ use Rattle.std.specs.Prelude.{ℕ, suc, List, [], ◌∷◌, if◌then◌else◌
 use Rattle.canton_model.specs.Inbox.{Item, verdict_in}
 use Rattle.canton_model.specs.Timeline.{decision_on}
 
--- Of items the first of which stands at place k and none before which decides: the request at place m is decided at the
--- first that comes after its decision time, and behind the first that is a verdict on it.
+-- The place at which the request at place m, with decision time `time`, is decided, by items the first of which stands at place k and before which
+-- nothing decides it. It is that of the first item that comes after the decision time, or the one behind the first verdict on the request. Where
+-- there is neither, it is the place behind the last item.
 abbrev pub decided_from : (time m k : ℕ) → List Item → ℕ
 decided_from time m k [] = k
 decided_from time m k (item ∷ rest) =
@@ -12,7 +13,7 @@ decided_from time m k (item ∷ rest) =
     then k
     else if is_some (decision_on m (verdict_in item.content)) then suc k else decided_from time m (suc k) rest
 
--- The place from which on so many items are looked at for what decides a request: the request's own, where an item stands there, and else 0.
--- No item in front of the request's place decides it.
+-- The place from which on an inbox of `count` items is searched for what decides the request at `place`: the request's own, where an item stands
+-- there, and else 0. No item in front of the request's place decides it.
 abbrev pub start_of : (count place : ℕ) → ℕ
 start_of count place = if nat_lt place count then place else 0

@@ -11,30 +11,32 @@ use Rattle.lang_eval.specs.Found.{Packages}
 use Rattle.pruned_inbox.specs.Start.{Start, is_gone}
 use Rattle.framed_form.specs.FramedReading.{framed_reading}
 
--- What contracts see of a `Hosting`, and no line of the topology: the participants, the packages, which participant it is, and what its inbox
--- left at its base.
+-- What contracts see of a `Hosting`: the participants, the packages, which participant it is, and what its inbox left at its base. It is another
+-- thing than a host of the topology.
 pub record Host : Type 0 where
   pub topology : Topology
   pub packages : Packages
   pub me : ParticipantId
   pub start : Start
 
+-- The `Host` of participant `me` with this topology, these packages and what its inbox left at its base.
 abbrev pub host_of : Topology → Packages → ParticipantId → Start → Host
 host_of topology packages me start = record { topology = topology; packages = packages; me = me; start = start }
 
+-- How requests are read with the participants and the packages of a host.
 abbrev pub reading_by : Host → Reading
 reading_by host = framed_reading host.topology host.packages
 
--- a contract with a hosted stakeholder that isn't gone
+-- Whether the participant offers the contract of a row to its submissions: the contract isn't gone, and the participant hosts a stakeholder of it.
 abbrev pub offers : Host → ActiveRow → Bool
 offers host row = not (is_gone host.start row.known.id) && is_stakeholder_hosted (reading_by host) host.me row.known.instance
 
--- each of these contracts has a hosted stakeholder
+-- Participant p hosts a stakeholder of each of these contracts.
 abbrev pub AreHosted : Reading → ParticipantId → List Known → Type 0
 AreHosted reading p [] = Unit {0}
 AreHosted reading p (known ∷ rest) = (is_stakeholder_hosted reading p known.instance ≡ true) × AreHosted reading p rest
 
--- what was found says the same as a contract
+-- Whether a contract was found and has the same instance as the given one. Where none was found (None) it is false.
 abbrev pub says_same : Option Known → Known → Bool
 says_same None known = false
 says_same (Some found) known = instance_eq.ghosts.eq found.instance known.instance

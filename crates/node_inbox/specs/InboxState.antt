@@ -12,8 +12,8 @@ use Rattle.pruned_inbox.specs.Start.{Start, no_start, verdicts_kept}
 use Rattle.lang_eval.specs.Found.{Packages}
 use Rattle.framed_form.specs.FramedReading.{framed_reading}
 
--- The participants with their times, the packages, which participant it is, its base with the time of the entry before that, what its
--- inbox left there, and its items: silent ones below the base, and from there on what was read.
+-- What contracts see of an inbox: the participants with their times, the packages, which participant it is of, its base with the time of the entry
+-- before that, in microseconds, what the inbox left at its base, and its items. These are silent below the base, and from there on what was read.
 pub record InboxState : Type 0 where
   pub topology : Topology
   pub packages : Packages
@@ -23,29 +23,34 @@ pub record InboxState : Type 0 where
   pub start : Start
   pub items : List Item
 
--- how it reads requests
+-- How requests are read with the participants and the packages of an inbox.
 abbrev pub reading_of : InboxState → Reading
 reading_of state = framed_reading state.topology state.packages
 
+-- The timeouts and the skew of an inbox, which are its topology's.
 abbrev pub params_of : InboxState → Params
 params_of state = state.topology.params
 
--- an inbox that begins at a base, from what was left there
+-- The inbox of participant `me` that begins at a base, with what was left there. Its only items are the silent ones below the base, the last of which
+-- has the time `base_time`.
 abbrev pub begun_at : Topology → Packages → ParticipantId → (base base_time : ℕ) → Start → InboxState
 begun_at topology packages me base base_time start =
     record { topology = topology; packages = packages; me = me; base = base; base_time = base_time; start = start; items = silent_front base base_time }
 
+-- The inbox of participant `me` that has read nothing and forgotten nothing.
 abbrev pub begun : Topology → Packages → ParticipantId → InboxState
 begun topology packages me = begun_at topology packages me 0 0 no_start
 
+-- An inbox with one more item behind the others.
 abbrev pub with_item : InboxState → Item → InboxState
 with_item state item = record state { items = state.items ++ item ∷ [] }
 
--- The least place at which the request is decided, and the cursor where it is at none. Where a verdict decides it, that is the place behind
--- the verdict.
+-- The least place at which the request at `place` is decided, and the cursor where it is undecided at each. Where a verdict decides it, that is the
+-- place behind the verdict.
 abbrev pub decided_since : Params → List Item → ℕ → ℕ
 decided_since params items place = unwrap_or (first_from (is_decided_in params items place) 0 (length items)) (length items)
 
--- the verdicts that are owed to the request at a place, by what was known when it had been read
+-- The verdicts that participant p owes to the request at place k, by what it knew when it had read that entry. There is none where no request
+-- was received there.
 abbrev pub owed_kept : Reading → Params → ParticipantId → Start → List Item → ℕ → List ViewVerdict
 owed_kept reading params p start items k = verdicts_kept reading params p start (take (suc k) items) k

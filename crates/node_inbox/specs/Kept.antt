@@ -22,9 +22,8 @@ use Rattle.node_inbox.specs.declared.kept_item.KeptContent.TheVariants.{Received
 use Rattle.node_inbox.specs.Items.{model_items}
 use Rattle.node_inbox.specs.Offers.{as_offered, opened_changes, opened_ids}
 
--- A framed request came of which this is kept, and the participant is a recipient: the request's sender and command, the hash of the
--- mediator's tree, the paths of the views that the participant sees and of those that it confirms, its envelope, and what that
--- offers it.
+-- There was a framed request of which participant `me` is a recipient, and this is what is kept of it: the request's sender and command, the hash of
+-- the mediator's tree, the paths of the views that the participant sees and of those that it confirms, its envelope, and what that offers it.
 pub record Came (topology : Topology) (packages : Packages) (me : ParticipantId) (kept : KeptRequest) : Type 0 where
   pub request : Request
   pub is_framed : (framed_reading topology packages).is_framed request ≡ true
@@ -37,8 +36,8 @@ pub record Came (topology : Topology) (packages : Packages) (me : ParticipantId)
   pub envelope_is : kept.envelope ≡ envelope_to me request.envelopes
   pub offer_is : as_offered kept.offer ≡ offered topology me request
 
--- A request at place k of an inbox that ends with it: it came, the changes are those in what is opened, and the facts say of each
--- contract in that what the start and the inbox say.
+-- What is kept of the request at place k, where these items end with it: such a request came, the changes are those among the authentic opened
+-- actions, and there is a fact on the contract of each opened action, which says what the start and the items say of it at that place.
 pub record IsKept (topology : Topology) (packages : Packages) (me : ParticipantId) (start : Start) (items : List Item) (k : ℕ)
     (kept : KeptRequest) : Type 0 where
   pub came : Came topology packages me kept
@@ -47,42 +46,44 @@ pub record IsKept (topology : Topology) (packages : Packages) (me : ParticipantI
       (is_locked_in_inbox (framed_reading topology packages) topology.params items k)) kept.facts
   pub all_ids : map (λ (fact : IdFacts). fact.id) kept.facts ≡ opened_ids kept.offer
 
--- a request as it is kept, or a verdict on one that was received before
+-- What is kept at place k, where these items end with it, is right: a request is kept as `IsKept` asks, and a verdict is on a request that was
+-- received before. Where the entry brought nothing there is nothing to ask.
 abbrev pub IsKeptContent : Topology → Packages → ParticipantId → Start → List Item → ℕ → KeptContent → Type 0
 IsKeptContent topology packages me start items k (Received kept) = IsKept topology packages me start items k kept
 IsKeptContent topology packages me start items k (Told verdict) = is_some (notice_at (take k items) verdict.request) ≡ true
 IsKeptContent topology packages me start items k Nothing = Unit {0}
 
--- Each item is kept as is said above, by the inbox as it stood when the item had been read.
+-- What each item keeps is right, by the inbox as it stood when the item had been read.
 abbrev pub AreKept : Topology → Packages → ParticipantId → Start → List KeptItem → Type 0
 AreKept topology packages me start items =
     (k : ℕ) (item : KeptItem) → slice_get items k ≡ Some item → IsKeptContent topology packages me start (take (suc k) (model_items items)) k item.content
 
--- The items are an inbox in order, the registry follows them, and what each keeps is right.
+-- The kept items are an inbox in order, the registry follows them, and what each of them keeps is right.
 pub record IsInbox (topology : Topology) (packages : Packages) (me : ParticipantId) (kept : List KeptItem) (stands : Registered) : Type 0 where
   pub follows : Follows (framed_reading topology packages) topology.params stands.start (model_items kept) stands
   pub order : IsInOrder (model_items kept)
   pub each : AreKept topology packages me stands.start kept
 
--- the request that an item keeps, where it is one of a request
+-- The request that an item keeps, and None where the item is a verdict or brings nothing.
 abbrev pub request_in : KeptContent → Option KeptRequest
 request_in (Received kept) = Some kept
 request_in (Told verdict) = None
 request_in Nothing = None
 
+-- The request that an item keeps, and None where there is no item, or it is a verdict or brings nothing.
 abbrev pub request_in_item : Option KeptItem → Option KeptRequest
 request_in_item None = None
 request_in_item (Some item) = request_in item.content
 
--- the request at a place, as it is kept
+-- The request that is kept at a place, and None where none was received there.
 abbrev pub kept_at : List KeptItem → ℕ → Option KeptRequest
 kept_at items k = request_in_item (slice_get items k)
 
--- An inbox begins at a base within it, from a start that stands below that.
+-- An inbox begins at a base that isn't behind its end, from a start that stands below the base.
 pub record BeginsAt (base : ℕ) (start : Start) (items : List Item) : Type 0 where
   pub within : base ≤ length items
   pub stands : StandsBelow base start items
 
--- The same at some base.
+-- There is a base at which the inbox of these items begins from this start.
 abbrev pub BeginsIn : Start → List Item → Type 0
 BeginsIn start items = (base : ℕ) × BeginsAt base start items

@@ -17,57 +17,59 @@ use Rattle.inbox_registry.specs.Changes.{creation_of}
 use Rattle.node_inbox.specs.AddedIds.{is_unknown}
 use Rattle.node_inbox.specs.declared.kept_active.KeptActive.{KeptActive}
 
--- what the approved requests from one place on, below another, write
+-- What the approved requests at the places from `start` on and below `end` do to contracts: their authentic opened actions, each with its place, in order.
 abbrev pub placed_between : Reading → List Item → (start end : ℕ) → List Placed
 placed_between reading items start zero = []
 placed_between reading items start (suc k) =
     if nat_le start k then placed_between reading items start k ++ map (at_place k) (writes_of reading items k) else []
 
+-- Whether a status is Consumed.
 abbrev pub is_consumed : Status → Bool
 is_consumed Unknown = false
 is_consumed Active = false
 is_consumed Consumed = true
 
--- none of these rows is of a consumed contract
+-- Whether none of the store's rows tells that the contract of an active row was consumed.
 abbrev pub is_unconsumed : List StoreRow → ActiveRow → Bool
 is_unconsumed rows row = not (is_consumed (status_in rows row.known.id))
 
--- the test holds of each contract that these actions create
+-- The test holds of the id of each contract that these actions create.
 abbrev pub CreateOnly : (Hash → Bool) → List Act → Type 0
 CreateOnly test [] = Unit {0}
 CreateOnly test (act ∷ actions) = (is_create act.action ≡ true → test (id_of act.action) ≡ true) × CreateOnly test actions
 
--- the Creates of what a start left, and what approved requests below a place write
+-- All that is written into a store up to place n: the Creates of the contracts that a start left active, and the actions of approved requests below n.
 abbrev pub begun_below : Reading → Start → List Item → ℕ → List Placed
 begun_below reading start items n = map creation_of start.active ++ placed_below reading items n
 
--- the approved requests from a place on create only contracts of which nothing is known below it
+-- The approved requests from place n on create only contracts of which nothing is known below n.
 abbrev pub AreFresh : Reading → Start → List Item → ℕ → Type 0
 AreFresh reading start items n =
     (k : ℕ) → n ≤ k → CreateOnly (λ c. is_unknown (status_after (acts_of (begun_below reading start items n)) c)) (writes_of reading items k)
 
--- The kept contracts are the participant's active ones at a place in the inbox, and approved requests from there on create only new ones.
+-- The kept contracts are those that were active at their place, which isn't behind the end of the inbox, with a stakeholder that participant p hosts.
+-- Approved requests from that place on create only new ones.
 pub record AreActive (reading : Reading) (p : ParticipantId) (start : Start) (items : List Item) (kept : KeptActive) : Type 0 where
   pub within : kept.place ≤ length items
   pub rows : kept.rows ≡ active_kept reading p start items kept.place
   pub fresh : AreFresh reading start items kept.place
 
--- the same of what is kept, if anything is
+-- What is kept, if anything is, are active contracts as `AreActive` asks. Where nothing is kept (None) it holds.
 abbrev pub AreActiveIf : Reading → ParticipantId → Start → List Item → Option KeptActive → Type 0
 AreActiveIf reading p start items None = Unit {0}
 AreActiveIf reading p start items (Some kept) = AreActive reading p start items kept
 
--- What is kept stays as it was where the flag is true, and else nothing is kept any more.
+-- What becomes of kept contracts that may be false now: where the flag is true they stay as they were, and else none are kept any more.
 abbrev pub IsKeptIf : Bool → (old new : Option KeptActive) → Type 0
 IsKeptIf true old new = new ≡ old
 IsKeptIf false old new = new ≡ None
 
--- nothing is kept, or the active contracts of a place that is at most this one
+-- Whether nothing is kept, or the kept contracts are those of a place that is at most the given one.
 abbrev pub are_at_most : Option KeptActive → ℕ → Bool
 are_at_most None place = true
 are_at_most (Some kept) place = nat_le kept.place place
 
--- the kept active contracts, unless their place is behind `end`
+-- The kept active contracts, and None where there are none or their place is behind `end`.
 abbrev pub not_behind : Option KeptActive → ℕ → Option KeptActive
 not_behind None end = None
 not_behind (Some kept) end = if nat_le kept.place end then Some kept else None

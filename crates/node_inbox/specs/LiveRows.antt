@@ -6,24 +6,24 @@ use Rattle.contract_store.specs.Rows.{with_created, with_consumed}
 use Rattle.contract_store.specs.declared.row.StoreRow.{StoreRow}
 use Rattle.inbox_registry.specs.declared.change.Change.{Change}
 
--- the row of a contract that nothing has created or consumed
+-- The row of a contract as long as nothing has created or consumed it.
 abbrev pub new_row : Known → StoreRow
 new_row known = record { known = known; created_at = None; consumed_at = None }
 
--- a contract's row after the request at a place created the contract, or else consumed it
+-- A contract's row after the request at a place created the contract (`is_create`), or else consumed it. Of two places of one kind the smaller stays.
 abbrev pub changed_row : ℕ → (is_create : Bool) → StoreRow → StoreRow
 changed_row place is_create row = if is_create then with_created place row else with_consumed place row
 
--- a contract's row after a change by the request at a place, whether there was a row before or not
+-- A contract's row after a change by the request at a place, where `before` is the row that there was, or None.
 abbrev pub row_after : ℕ → Change → Option StoreRow → StoreRow
 row_after place change before = changed_row place change.is_create (unwrap_or before (new_row change.known))
 
--- each row stands behind its contract's id
+-- In each of these pairs the id is that of the row's contract.
 abbrev pub AreById : List (Hash × StoreRow) → Type 0
 AreById [] = Unit {0}
 AreById (entry ∷ entries) = (entry.0 ≡ entry.1.known.id) × AreById entries
 
--- there is a row, and its contract was consumed
+-- Whether there is a row and its contract was consumed.
 abbrev pub has_consumed_row : Option StoreRow → Bool
 has_consumed_row None = false
 has_consumed_row (Some row) = is_some row.consumed_at

@@ -11,15 +11,15 @@ use Rattle.inbox_registry.specs.Changes.{NoneGone, changes_since}
 use Rattle.inbox_registry.specs.Offered.{CreatedOnce}
 use Rattle.node_inbox.specs.Listed.{is_offered}
 
--- the active ones with a hosted stakeholder, in order of creation
+-- The active contracts among a store's rows of which participant p hosts a stakeholder, in order of creation.
 abbrev pub offered : Reading → ParticipantId → List StoreRow → List ActiveRow
 offered reading p rows = filter (is_offered reading p) (active_rows rows)
 
--- No contract is created twice, one of the start among them, and none that is gone.
+-- No contract is created twice by the approved requests of these items, one that the start left active among them, and none that is gone is created.
 pub record AreOnce (reading : Reading) (start : Start) (items : List Item) : Type 0 where
   pub once : CreatedOnce (changes_since reading start items)
   pub none_gone : NoneGone start (changes_since reading start items)
 
--- where the flag `once` is true, no contract is created twice, as is said above
+-- Where the flag `once` is true, no contract is created twice (`AreOnce`). Where it is false nothing is said.
 abbrev pub AreOnceIf : Bool → Reading → Start → List Item → Type 0
 AreOnceIf once reading start items = once ≡ true → AreOnce reading start items

@@ -15,31 +15,33 @@ use Rattle.inbox_registry.specs.declared.change.Change.{Change}
 use Rattle.node_inbox.specs.declared.kept_offer.KeptOffer.{KeptOffer}
 use Rattle.node_inbox.specs.declared.kept_offer.KeptOffer.TheVariants.{Mismatch, Missing, Open}
 
--- what an envelope's bytes offered, read back from what is kept of it
+-- What the bytes of an envelope offered, read back from what is kept of it.
 abbrev pub as_offered : KeptOffer → OpenedFor
 as_offered Mismatch = opened.Mismatch
 as_offered Missing = opened.Missing
 as_offered (Open tree) = opened.Open tree
 
--- a kept offer as the definitions of the protocol see it
+-- What an envelope offers, as the definitions of the protocol have it, of what is kept of it.
 abbrev pub model_offer : KeptOffer → Offer
 model_offer offer = offer_of (as_offered offer)
 
--- the trees that are opened, and nothing where the envelope isn't complete
+-- The trees of actions that an envelope opens by what its bytes offer, and no tree where it isn't complete.
 abbrev pub roots_opened : OpenedFor → Actions
 roots_opened offered = roots_in (shown_in_offer (offer_of offered))
 
+-- The trees of actions that a kept offer opens, and no tree where its envelope isn't complete.
 abbrev pub roots_offered : KeptOffer → Actions
 roots_offered offer = roots_opened (as_offered offer)
 
--- the contracts that the opened actions are on
+-- The ids of the contracts that the opened actions are on, one for each action, in pre-order.
 abbrev pub opened_ids : KeptOffer → List Hash
 opened_ids offer = map (λ (act : Act). id_of act.action) (acts (roots_offered offer))
 
--- the changes among the authentic actions that are opened
+-- The changes among the authentic actions that a kept offer opens, in pre-order.
 abbrev pub opened_changes : KeptOffer → List Change
 opened_changes offer = changes_of (filter is_authentic (acts (roots_offered offer)))
 
+-- Whether a kept offer is of a complete envelope.
 abbrev pub is_open : KeptOffer → Bool
 is_open Mismatch = false
 is_open Missing = false

@@ -8,37 +8,39 @@ use Rattle.inbox_registry.specs.Requests.{outcome_received}
 use Rattle.node_inbox.specs.Approved.{is_approved}
 use Rattle.node_inbox.specs.declared.approved_places.ApprovedPlaces.{ApprovedPlaces}
 
+-- A list of the one place k where the flag is true, and else the empty one.
 abbrev pub place_if : Bool → ℕ → List ℕ
 place_if wanted k = if wanted then k ∷ [] else []
 
--- the places below one at which the test holds
+-- The places below the given one at which the test holds, ascending.
 abbrev pub places_below : (ℕ → Bool) → ℕ → List ℕ
 places_below test zero = []
 places_below test (suc k) = places_below test k ++ place_if (test k) k
 
--- the places below n at which an approved request is tracked
+-- The places below n at which the tracker has an approved request, ascending.
 abbrev pub tracked_below : List Pair → ℕ → List ℕ
 tracked_below pairs n = places_below (λ k. is_approved (outcome_at pairs k)) n
 
--- the places below n at which a request was received that is approved
+-- The places below n of the requests that an inbox received and that are approved by its items, ascending.
 abbrev pub approved_below : Params → List Item → ℕ → List ℕ
 approved_below params items n = places_below (λ k. is_approved (outcome_received params items k)) n
 
--- what the requests at these places open
+-- The commits of the requests at these places, as they are opened, approved or not. A request of which nothing is opened makes no commit.
 abbrev pub parts_at : List Item → List ℕ → List Commit
 parts_at items [] = []
 parts_at items (k ∷ ks) = part_if true k (opened_at items k) ++ parts_at items ks
 
--- a view of the request at a place is seen, and its envelope isn't complete
+-- Whether the participant sees a view of the request at place k and its envelope isn't complete. It is false where no request was received there.
 abbrev pub is_kept_from_at : List Item → ℕ → Bool
 is_kept_from_at items k = is_kept_from (notice_at items k)
 
--- The kept places are those of all approved requests of the inbox below a place in it.
+-- What is kept are the places of all approved requests of the inbox below the place `below`, which isn't behind the end of the inbox.
 pub record AreApproved (params : Params) (items : List Item) (approved : ApprovedPlaces) : Type 0 where
   pub within : approved.below ≤ length items
   pub places : approved.places ≡ approved_below params items approved.below
 
--- The kept places are as they were where the flag is true, and else there are none, below a base.
+-- What becomes of kept places that may be false now: where the flag is true they stay as they were, and else those below the base are kept, of
+-- which there are none.
 abbrev pub AreKeptIf : Bool → ℕ → (old new : ApprovedPlaces) → Type 0
 AreKeptIf true base old new = new ≡ old
 AreKeptIf false base old new = (new.below ≡ base) × (new.places ≡ [])

@@ -24,34 +24,41 @@ use Rattle.node_inbox.specs.declared.kept_item.KeptContent.TheVariants.{Received
 
 -- ---- of what is kept
 
+-- What an inbox keeps of what an entry brought, as a state has it. Offer, changes and facts are left out, since they are worked out again.
 abbrev pub raw_what : KeptContent → ItemWhat
 raw_what (Received kept) = raw.Request kept.sender kept.command kept.root kept.seen kept.confirmed kept.envelope
 raw_what (Told verdict) = raw.Verdict verdict
 raw_what Nothing = raw.Nothing
 
+-- An item that an inbox keeps, as a state has it.
 abbrev pub raw_item : KeptItem → Item
 raw_item item = record { time = item.time; what = raw_what item.content }
 
+-- The items that an inbox keeps, as a state has them.
 abbrev pub raw_items : List KeptItem → List Item
 raw_items items = map raw_item items
 
 -- ---- as the definitions of the protocol see it
 
--- what an envelope offers who sees these views of a request with this root
+-- What an envelope's bytes offer to somebody who sees the views with the paths `seen` of a request whose mediator's tree has the hash `root`. Where
+-- there is no envelope (None), that is Missing.
 abbrev pub offer_by : Topology → List ℕ → List Path → Option (List ℕ) → OpenedFor
 offer_by topology root seen None = Missing
 offer_by topology root seen (Some bytes) = if_known topology (opened_for_root root seen (list_any is_root_path seen) bytes)
 
+-- What a raw item brings, as the definitions of the protocol have it. Its envelope is read again.
 abbrev pub content_by : Topology → ItemWhat → Content
 content_by topology (raw.Request sender command root seen confirmed envelope) =
     model.Received (record { sender = sender; seen = seen; confirmed = confirmed; offer = offer_of (offer_by topology root seen envelope) })
 content_by topology (raw.Verdict verdict) = model.Told verdict
 content_by topology raw.Nothing = model.Nothing
 
+-- A raw item as the definitions of the protocol have it.
 abbrev pub item_by : Topology → Item → model.Item
 item_by topology item = record { time = item.time; content = content_by topology item.what }
 
--- A framed request came of which this is what one of its recipients keeps.
+-- There was a framed request of which participant `me` is a recipient, and this is what `me` keeps of it in a state: sender, command, the hash of the
+-- mediator's tree, the paths of the views that it sees and confirms, and its envelope.
 pub record IsOfRequest (topology : Topology) (packages : Packages) (me : ParticipantId) (sender : ParticipantId) (command : Name) (root : List ℕ)
     (seen confirmed : List Path) (envelope : Option (List ℕ)) : Type 0 where
   pub request : Request
@@ -64,14 +71,14 @@ pub record IsOfRequest (topology : Topology) (packages : Packages) (me : Partici
   pub confirmed_is : confirmed ≡ paths_confirmed (framed_reading topology packages) me request
   pub envelope_is : envelope ≡ envelope_to me request.envelopes
 
--- an item that may come behind these: one of a framed request, or of a verdict on a request that was received, or of nothing
+-- A raw item may come behind these items: as that of a framed request to participant `me`, of a verdict on a request that was received, or of nothing.
 abbrev pub IsCame : Topology → Packages → ParticipantId → List model.Item → ItemWhat → Type 0
 IsCame topology packages me items (raw.Request sender command root seen confirmed envelope) =
     IsOfRequest topology packages me sender command root seen confirmed envelope
 IsCame topology packages me items (raw.Verdict verdict) = is_some (notice_at items verdict.request) ≡ true
 IsCame topology packages me items raw.Nothing = Unit {0}
 
--- Each of these raw items may come behind those before it. They are the items from the base on of an inbox, whose items are `all`.
+-- Each of these raw items may come behind those before it. They are the items from the base on of an inbox of participant `me`, whose items are `all`.
 abbrev pub AreCame : Topology → Packages → ParticipantId → (base : ℕ) → List model.Item → List Item → Type 0
 AreCame topology packages me base all items =
     (k : ℕ) (item : Item) → slice_get items k ≡ Some item → IsCame topology packages me (take (base + k) all) item.what

@@ -17,28 +17,30 @@ use Rattle.node_inbox.specs.declared.kept_item.KeptItem.{KeptItem}
 use Rattle.node_inbox.specs.Items.{model_items}
 use Rattle.node_inbox.specs.Kept.{IsInbox}
 
+-- An item with this time, in microseconds, and this content.
 abbrev pub item_with : (time : ℕ) → Content → Item
 item_with time content = record { time = time; content = content }
 
--- The new items with the registry are an inbox, which has this item behind the old ones, and the start that it had.
+-- The new kept items with the registry are an inbox. It has the given item behind the old ones, and the start that it had.
 pub record HasRead (topology : Topology) (packages : Packages) (me : ParticipantId) (old new : List KeptItem) (start : Start) (stands : Registered)
     (item : Item) : Type 0 where
   pub inbox : IsInbox topology packages me new stands
   pub start_is : stands.start ≡ start
   pub items : model_items new ≡ model_items old ++ item ∷ []
 
--- The new items with the registry are an inbox, which has the items and the start that it had.
+-- The new kept items with the registry are an inbox. It has the items and the start that it had, since reading failed for want of memory.
 pub record IsUnread (topology : Topology) (packages : Packages) (me : ParticipantId) (old new : List KeptItem) (start : Start) (stands : Registered)
     : Type 0 where
   pub inbox : IsInbox topology packages me new stands
   pub start_is : stands.start ≡ start
   pub items : new ≡ old
 
--- a kept request with what the registry knows of its contracts
+-- A kept request with its facts filled in by what the registry knows of its contracts.
 abbrev pub kept_with : KeptRequest → Registered → KeptRequest
 kept_with kept stands = record kept { facts = map (fact_in stands) kept.facts }
 
--- the request at a place got the outcome, holds nothing any more, and made these changes
+-- The registry after the request at a place got its outcome: the changes are written into the store, the request holds nothing any more, the tracker
+-- has the outcome, and all else is as it was.
 pub record IsSettled (old new : Registered) (place : ℕ) (outcome : Kind) (changes : List Change) : Type 0 where
   pub rows : (new.store).rows ≡ write_changes place changes (old.store).rows
   pub holds : (new.store).holds ≡ released place (old.store).holds

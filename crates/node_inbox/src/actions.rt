@@ -22,7 +22,7 @@ use ledger_terms::{Action, ActionNodeList, Exact, Hash, Known, push_closely};
 use std::alloc::{AllocError, Global};
 use view_split::{ActRef, acts_in_views, assemble};
 
-/// The trees of all views that are opened.
+/// The trees of actions of these opened views, in order: the views below a view are put back into its holes.
 pub fn roots_of(alloc: Global, views: &PlacedViewList) -> Result<ActionNodeList, AllocError>
     ensures { IfOk result (λ roots. roots ≡ put_back (placed_forest views.now)) }
 {
@@ -33,7 +33,7 @@ pub fn roots_of(alloc: Global, views: &PlacedViewList) -> Result<ActionNodeList,
     Ok(roots)
 }
 
-/// The trees that an offer opens.
+/// The trees of actions that a kept offer opens, as copies. There is none where the envelope isn't complete.
 pub fn roots_offered(alloc: Global, offer: &KeptOffer) -> Result<ActionNodeList, AllocError>
     ensures { IfOk result (λ roots. roots ≡ roots_offered offer.now) }
 {
@@ -44,7 +44,7 @@ pub fn roots_offered(alloc: Global, offer: &KeptOffer) -> Result<ActionNodeList,
     }
 }
 
-/// The actions in these trees, each before those below it.
+/// The actions that a kept offer opens, in pre-order, to look at. There is none where the envelope isn't complete.
 pub fn acts_offered<'a>(alloc: Global, offer: &'a KeptOffer) -> Result<Vec<ActRef<'a>>, AllocError>
     ensures { IfOk result (λ found. found.items ≡ acts (roots_offered offer.now)) }
 {
@@ -118,7 +118,7 @@ fn room_for(alloc: Global, found: &[ActRef<'_>]) -> Result<Vec<Change>, AllocErr
     Ok(changes)
 }
 
-/// The changes among the authentic ones of actions.
+/// The changes among the authentic ones of these actions, in order: each creates or consumes its contract.
 pub fn changes_of(alloc: Global, found: &[ActRef<'_>]) -> Result<Vec<Change>, AllocError>
     requires { All (λ (act : Act). IsSpellableInstance (instance_of act.action)) found.now }
     ensures { IfOk result (λ changes. changes.items ≡ changes_of (filter is_authentic found.now)) }
@@ -130,7 +130,7 @@ pub fn changes_of(alloc: Global, found: &[ActRef<'_>]) -> Result<Vec<Change>, Al
     Ok(changes)
 }
 
-/// A place for what is known of the contract of each action, with nothing known yet.
+/// A fact on the contract of each of these actions, in order, with nothing known of the contract yet.
 pub fn blank_facts(alloc: Global, found: &[ActRef<'_>]) -> Result<IdFactsList, AllocError>
     ensures { IfOk result (λ facts. facts ≡ map blank_fact found.now) }
 {

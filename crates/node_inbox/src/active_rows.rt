@@ -134,7 +134,7 @@ fn push_row(
     }
 }
 
-// Those that are offered, in the order of the rows, come behind these.
+// Puts the active contracts of these rows that the participant offers behind those in `kept`, in the order of the rows.
 fn push_offered(
     alloc: Global,
     hosting: &Hosting<'_>,
@@ -167,7 +167,7 @@ fn push_if_unconsumed(
     })
 }
 
-// Those of these contracts that weren't consumed.
+// Those of these active contracts that weren't consumed by the rows.
 fn left_of(
     alloc: Global,
     rows: &[ActiveRow],
@@ -191,7 +191,8 @@ fn first_of(items: &KeptItems, end: u64) -> u64
     if base < end { base } else { end }
 }
 
-/// The rows of the contracts that were left at the base, and of those that approved requests below a place changed since.
+/// Rows as a store has them, of active and of consumed contracts: of those that were left at the base and of those that approved requests below the
+/// place `end` created or consumed. Goes through the places from the base up to `end`.
 pub fn rows_below<'k>(
     alloc: Global,
     setup: &Setup,
@@ -211,7 +212,7 @@ pub fn rows_below<'k>(
     Ok(live)
 }
 
-// Goes on from those that are kept.
+// The active contracts at the place `end`, made of those that are kept of an earlier place and of the approved requests since.
 fn active_from(
     alloc: Global,
     hosting: &Hosting<'_>,
@@ -234,7 +235,7 @@ fn active_from(
     Ok(rows)
 }
 
-// Goes through all that was read.
+// The active contracts at the place `end`, made of those that were left at the base and of all approved requests since.
 fn active_from_start(
     alloc: Global,
     hosting: &Hosting<'_>,
@@ -256,8 +257,8 @@ fn active_from_start(
     Ok(rows)
 }
 
-/// The contracts with a hosted stakeholder that were left at the base or that the approved requests below a place create, and that none of
-/// them consumes, in order of creation. Goes on from those that are kept.
+/// The contracts with a hosted stakeholder that were left at the base or that the approved requests below the place `end` create, and that none of
+/// them consumes, in order of creation. `kept` are those of an earlier place: where that isn't behind `end` only the places since are gone through.
 pub fn active_rows(
     alloc: Global,
     hosting: &Hosting<'_>,

@@ -100,8 +100,8 @@ fn front(changes: &[Change], count: usize) -> &[Change]
     }
 }
 
-/// The ids of those contracts that changes bring into a store and that have a hosted stakeholder; and whether each contract that they
-/// create is new to the store.
+/// The ids of the new contracts with a stakeholder hosted by `me` that these changes create, in order; and whether every contract that they create is
+/// new: the store doesn't know it, and no change before is on it.
 pub fn added_ids(
     alloc: Global,
     setup: &Setup,
@@ -126,14 +126,14 @@ pub fn added_ids(
     Ok((ids, all_are_new))
 }
 
-/// Whether one of these changes creates a contract that is gone.
+/// Whether one of these changes creates a contract that is gone by the start.
 pub fn create_gone(start: &KeptStart, changes: &[Change]) -> bool
     ensures { result ≡ list_any (creates_gone start.now) changes.now }
 {
     changes.iter().any(|change| change.is_create && start.is_gone(&change.known.id))
 }
 
-/// Puts ids among those of contracts with a hosted stakeholder, in the room that is there.
+/// Puts `ids` among the ids of contracts with a hosted stakeholder, in the room that is there. Takes no memory.
 pub fn put_ids(hosted: &mut HostedIds, ids: &HashList)
     requires { length ids.now ≤ hosted.old.spare }
     ensures { (c : List ℕ) → is_among hosted.new.ids c ≡ (is_among ids.now c || is_among hosted.old.ids c) }

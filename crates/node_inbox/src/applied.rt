@@ -20,7 +20,7 @@ use ledger_model::{Commit, CommitList};
 use ledger_terms::ActionNodeList;
 use std::alloc::{AllocError, Global};
 
-/// Whether the request at a place is approved.
+/// Whether the request at a place is approved. It is false where no request was received there.
 pub fn is_approved(registry: &Registry, place: u64) -> bool
     ensures { result ≡ is_approved (outcome_at registry.now.tracking.pairs place) }
 {
@@ -43,7 +43,7 @@ fn opened_at(items: &KeptItems, place: u64) -> Option<&KeptRequest>
     request_at(items, place)
 }
 
-/// The request at a place, where it is approved.
+/// The request that was received at a place, where it is approved by what was read, and else none.
 pub fn approved_at<'i>(
     setup: &Setup,
     items: &'i KeptItems,
@@ -64,7 +64,7 @@ pub fn approved_at<'i>(
     }
 }
 
-/// Trees as a commit, where there are any.
+/// Puts trees of actions behind the commits, as the commit of a place. Where there are no trees nothing is put there.
 pub fn push_commit(
     place: u64,
     roots: ActionNodeList,
@@ -126,7 +126,8 @@ fn opened_of(alloc: Global, items: &KeptItems, places: &[u64]) -> Result<CommitL
     Ok(commits)
 }
 
-/// The approved requests below a place, as they are opened. Goes through the places that are known, and on from there.
+/// The commits of the approved requests below the place `end`, as they are opened, without those of which nothing is. `approved` has the first of
+/// their places, so that only the places behind these are gone through.
 pub fn applied(
     alloc: Global,
     setup: &Setup,

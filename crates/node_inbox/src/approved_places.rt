@@ -9,7 +9,7 @@ use inbox_registry::Registry;
 use ledger_terms::U64List;
 use std::alloc::{AllocError, Global};
 
-/// The places of the approved requests below a place.
+/// The places of all approved requests below the place `below`, ascending.
 #[derive(Drop)]
 pub struct ApprovedPlaces {
     pub below: u64,
@@ -17,7 +17,7 @@ pub struct ApprovedPlaces {
 }
 
 impl ApprovedPlaces {
-    /// Those below the first place.
+    /// The places below place 0: there are none.
     pub fn new(alloc: Global) -> ApprovedPlaces
         ensures below { result.below ≡ 0 }
         ensures places { result.places ≡ [] }
@@ -28,7 +28,7 @@ impl ApprovedPlaces {
         }
     }
 
-    /// Those below a place below which nothing was received.
+    /// The places below `below`, where nothing was received there: there are none.
     pub fn at(alloc: Global, below: u64) -> ApprovedPlaces
         ensures below { result.below ≡ below }
         ensures places { result.places ≡ [] }
@@ -39,7 +39,7 @@ impl ApprovedPlaces {
         }
     }
 
-    /// Unless they are to be kept, leaves those below a base, of which there are none. Takes no memory.
+    /// Leaves the places as they are where `kept` is true. Else it goes back to those below the base, of which there are none. Takes no memory.
     pub fn keep_if(&mut self, kept: bool, base: u64)
         ensures { AreKeptIf kept base self.old self.new }
     {
@@ -48,7 +48,7 @@ impl ApprovedPlaces {
         }
     }
 
-    /// Those below a place that isn't behind another, and else those below the first.
+    /// These places, where their `below` isn't behind the place `end`, and else `none`, which are the places below 0.
     pub fn not_behind<'a>(&'a self, none: &'a ApprovedPlaces, end: u64) -> &'a ApprovedPlaces
         ensures { result.now ≡ (if nat_le self.now.below end then self.now else none.now) }
     {
@@ -71,7 +71,7 @@ impl ApprovedPlaces {
     }
 }
 
-/// Brings them up to a place, as far as there is memory.
+/// Adds the places of the approved requests from `below` on and below the place `end`. After want of memory `below` stands where memory ran out.
 pub fn bring_up(
     approved: &mut ApprovedPlaces,
     registry: &Registry,

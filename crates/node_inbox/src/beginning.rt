@@ -104,7 +104,8 @@ fn ids_copy(alloc: Global, ids: &[Hash]) -> Result<HashList, AllocError>
 }
 
 impl Beginning {
-    /// Where an inbox begins with copies of these contracts and of these ids of others.
+    /// A beginning at this base, with the time of the entry before it in microseconds, and with copies of the contracts that were active there and of
+    /// the ids of those that are gone.
     pub fn with_copies(
         alloc: Global,
         base: u64,
@@ -142,7 +143,8 @@ fn start_row(registry: &Registry, at: usize) -> Result<ActiveRow, AllocError>
     copy_at(registry.start().active().as_slice(), at)
 }
 
-/// The contracts that were active at the base are written into the store, as the Creates that made them.
+/// Writes the contracts that were active at the base into the store of the registry, as the Creates that made them, and the ids of those with a
+/// stakeholder hosted by `me` into `hosted`. After want of memory some of them may be missing.
 pub fn write_start(
     setup: &Setup,
     me: ParticipantId,

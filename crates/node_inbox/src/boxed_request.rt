@@ -30,7 +30,7 @@ impl Model for BoxedRequest {
 }
 
 impl BoxedRequest {
-    /// The request, in a place of its own.
+    /// Moves a request to where it stands apart from its item.
     pub fn new(alloc: Global, request: KeptRequest) -> Result<BoxedRequest, AllocError>
         ensures { IfOk result (λ boxed. boxed ≡ request) }
     {
@@ -45,7 +45,7 @@ impl BoxedRequest {
         &*self.request
     }
 
-    /// The request itself.
+    /// Takes the request out.
     pub fn into_request(self) -> KeptRequest
         ensures { result ≡ self }
     {

@@ -16,7 +16,7 @@ fn change_copy(change: &Change) -> Result<Change, AllocError>
     })
 }
 
-/// The same changes.
+/// A copy of these changes.
 pub fn changes_copy(alloc: Global, changes: &[Change]) -> Result<Vec<Change>, AllocError>
     ensures { IfOk result (λ copy. copy.items ≡ changes.now) }
 {
@@ -28,7 +28,7 @@ pub fn changes_copy(alloc: Global, changes: &[Change]) -> Result<Vec<Change>, Al
     Ok(copy)
 }
 
-/// The contracts of changes.
+/// The ids of the contracts that these changes are on, in order.
 pub fn ids_of(alloc: Global, changes: &[Change]) -> Result<HashList, AllocError>
     ensures { IfOk result (λ ids. ids ≡ map id_in changes.now) }
 {

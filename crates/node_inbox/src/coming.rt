@@ -31,7 +31,7 @@ pub struct ComingRequest {
     pub ids: HashList,
 }
 
-/// A fact on the contract of each action that an offer opens, with nothing known yet, and the changes among these actions.
+/// A blank fact on the contract of each action that a kept offer opens, and the changes among the authentic ones of these actions.
 pub fn parts_of(alloc: Global, offer: &KeptOffer) -> Result<(IdFactsList, Vec<Change>), AllocError>
     requires { All (λ (act : Act). IsSpellableInstance (instance_of act.action)) (acts (roots_offered offer.now)) }
     ensures { IfOk result (λ parts. AreParts offer.now parts.0 (parts.1).items) }
@@ -42,7 +42,7 @@ pub fn parts_of(alloc: Global, offer: &KeptOffer) -> Result<(IdFactsList, Vec<Ch
     Ok((facts, changes))
 }
 
-/// The same bytes, where there are some, with no copy.
+/// The same bytes once more, shared and not copied, and none where there are none.
 pub fn shared(bytes: Option<&SharedBytes>) -> Result<Option<SharedBytes>, AllocError>
     ensures { IfOk result (λ shared. shared ≡ option_copied bytes.entry) }
 {
@@ -85,8 +85,8 @@ fn kept_of(
     })
 }
 
-/// What comes of a framed request, by what its mediator's bytes tell, and none exactly where the participant isn't a recipient. The
-/// envelope is read once.
+/// What participant `me` keeps of a framed request, before it is put into the inbox, and none exactly where `me` isn't a recipient. `outline` is what
+/// the request's mediator's bytes tell. The envelope is read once.
 pub fn coming(
     alloc: Global,
     setup: &Setup,

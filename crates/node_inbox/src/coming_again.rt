@@ -48,7 +48,8 @@ fn offer_by(
     }
 }
 
-/// What an inbox keeps of a request that a state had. The envelope is read once more, without the mediator's tree beside it.
+/// What the inbox of participant `me` keeps of a request that a state had, before it is put there. The envelope is read once more, without the
+/// mediator's tree beside it.
 pub fn coming_again(
     alloc: Global,
     setup: &Setup,

@@ -60,8 +60,8 @@ fn decided_among(params: &Params, items: &KeptItems, place: u64, time: u64, star
     end
 }
 
-/// The first place at which the request at a place was decided, and the number of items where it was at none. Goes through the
-/// items from the request's place on.
+/// The first place at which the request at `place` is decided, and the number of items where it is undecided at each. Goes through the items from the
+/// request's place on.
 pub fn decided_since(params: &Params, items: &KeptItems, place: u64) -> u64
     requires { IsInOrder (model_items items.now.items) }
     ensures { result ≡ decided_since params.now (model_items items.now.items) place }

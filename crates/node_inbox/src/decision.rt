@@ -50,7 +50,7 @@ fn start_of(items: &KeptItems, place: u64) -> u64
     }
 }
 
-/// The decision of the verdict on the request at a place. Goes through what was read from that place up to the verdict.
+/// The decision of the verdict on the request at a place, and none where no verdict on it came. Goes through the items from that place up to the verdict.
 pub fn decision_at(items: &KeptItems, place: u64) -> Option<&Decision>
     requires behind { VerdictsBehind 0 (model_items items.now.items) }
     ensures { option_copied result ≡ verdict_on place (moments (model_items items.now.items)) }

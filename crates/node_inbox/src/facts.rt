@@ -23,7 +23,7 @@ fn fill(registry: &Registry, facts: &mut Vec<IdFacts>)
     }
 }
 
-/// The facts on the same contracts, with what the registry knows of them.
+/// These facts, filled in with what the registry knows of the contracts that they are on. Takes no memory.
 pub fn filled(registry: &Registry, facts: IdFactsList) -> IdFactsList
     ensures { result ≡ map (fact_in registry.now) facts }
 {

@@ -51,7 +51,7 @@ fn says_same(found: Option<&Known>, known: &Known) -> bool
 }
 
 impl<'i> Hosting<'i> {
-    /// A participant with such contracts, and with what its inbox left at its base.
+    /// Participant `me` with what its inbox left at its base, and with contracts that are known to have a stakeholder that it hosts.
     pub fn new(
         setup: &'i Setup,
         me: ParticipantId,
@@ -69,7 +69,7 @@ impl<'i> Hosting<'i> {
         }
     }
 
-    /// The participants and the packages.
+    /// The topology and the packages.
     pub fn setup(&self) -> &'i Setup
         ensures topology { result.now.topology ≡ self.now.topology }
         ensures packages { result.now.checked ≡ self.now.packages }
@@ -77,7 +77,7 @@ impl<'i> Hosting<'i> {
         self.setup
     }
 
-    /// What its inbox left at its base.
+    /// What the participant's inbox left at its base.
     pub fn start(&self) -> &'i KeptStart
         ensures { result.now ≡ self.now.start }
     {
@@ -94,7 +94,8 @@ impl<'i> Hosting<'i> {
         has_hosted_stakeholder(alloc, self.setup, self.me, &known.instance)
     }
 
-    /// Whether it offers a contract: one that isn't gone, with a stakeholder that it hosts.
+    /// Whether the participant offers a contract, which was created at the place `created_at`, to its submissions: the contract isn't gone, and has a
+    /// stakeholder that it hosts.
     pub fn offers(&self, alloc: Global, created_at: u64, known: &Known) -> Result<bool, AllocError>
         ensures { IfOk result (λ b. b ≡ offers self.now (active_row_of created_at known.now)) }
     {

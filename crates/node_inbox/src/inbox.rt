@@ -90,7 +90,7 @@ impl<'s> Model for Inbox<'s> {
 }
 
 impl<'s> Inbox<'s> {
-    /// An inbox of a participant that has read nothing.
+    /// An inbox of participant `me`, which has read nothing.
     pub fn new(alloc: Global, setup: &'s Setup, me: ParticipantId) -> Inbox<'s>
         ensures { result ≡ begun setup.now.topology setup.now.checked me }
     {
@@ -113,7 +113,8 @@ impl<'s> Inbox<'s> {
         }
     }
 
-    /// An inbox of a participant that has forgotten all that it read below a base but what was left there.
+    /// An inbox of participant `me`, which has forgotten all that it read below a base but what the beginning says that it left there. Its
+    /// cursor is the base.
     pub fn begin_at(
         alloc: Global,
         setup: &'s Setup,
@@ -151,14 +152,14 @@ impl<'s> Inbox<'s> {
         })
     }
 
-    /// The place from which on it has what was read. Takes no memory.
+    /// The place below which it has forgotten what it read. It is 0 where it has forgotten nothing. Takes no memory.
     pub fn base(&self) -> u64
         ensures { result ≡ self.now.base }
     {
         self.base
     }
 
-    /// How many entries were read.
+    /// How many entries were read, with those that are forgotten: the place of the next one.
     pub fn cursor(&self) -> u64
         ensures { result ≡ length self.now.items }
     {
@@ -294,8 +295,8 @@ impl<'s> Inbox<'s> {
         Ok(())
     }
 
-    /// Reads the next entry of the log, by what its mediator's bytes tell, where it brings a request. Takes all memory before it changes
-    /// anything.
+    /// Reads the next entry of the log. Where it brings a request `outline` is what the request's mediator's bytes tell. Takes all memory before it
+    /// changes anything, so an error leaves the inbox as it was.
     pub fn read(&mut self, entry: &Entry, outline: Option<&Outline>) -> Result<(), AllocError>
         requires few { length self.old.items < 2 ^ 63 }
         requires rises { last_time self.old.items < entry.now.time }
@@ -381,8 +382,8 @@ impl<'s> Inbox<'s> {
         }
     }
 
-    /// Puts an item behind those that were read, as it was in an inbox of this participant. Takes all memory before it changes
-    /// anything.
+    /// Puts a raw item, which an inbox of this participant had, behind those that were read. Takes all memory before it changes anything, so an error
+    /// leaves the inbox as it was.
     pub fn put(&mut self, item: Item) -> Result<(), AllocError>
         requires few { length self.old.items < 2 ^ 63 }
         requires rises { last_time self.old.items < item.time }

@@ -17,7 +17,7 @@ fn request_in(content: &KeptContent) -> Option<&KeptRequest>
     }
 }
 
-/// The request that was received at a place.
+/// The request that was received at a place, and none where none was.
 pub fn request_at(items: &KeptItems, place: u64) -> Option<&KeptRequest>
     ensures { option_copied result ≡ kept_at items.now.items place }
 {
@@ -27,14 +27,14 @@ pub fn request_at(items: &KeptItems, place: u64) -> Option<&KeptRequest>
     }
 }
 
-/// The time of the item at a place, and 0 where there is none.
+/// The time of the item at a place, in microseconds, and 0 where there is no item.
 pub fn time_at(items: &KeptItems, place: u64) -> u64
     ensures { result ≡ item_time (slice_get (model_items items.now.items) place) }
 {
     items.time(place)
 }
 
-/// The time of the item before a place, and 0 where there is none.
+/// The time of the item before a place, in microseconds, and 0 where there is no item before it.
 pub fn time_before(items: &KeptItems, place: u64) -> u64
     requires { place ≤ length items.now.items }
     ensures { result ≡ last_time (take place (model_items items.now.items)) }

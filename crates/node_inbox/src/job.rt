@@ -49,7 +49,7 @@ fn input_of<'s>(
     })
 }
 
-/// The check that the participant owes to the request at a place, by what it had read when it had read that.
+/// The check that participant `me` owes to the request at a place, by what it knew when it had read that entry.
 pub fn job<'s>(
     alloc: Global,
     setup: &'s Setup,

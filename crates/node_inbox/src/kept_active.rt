@@ -26,7 +26,7 @@ pub fn is_far(earlier: u64, count: usize, place: u64) -> bool {
     place.saturating_sub(earlier) / FAR > count as u64
 }
 
-/// Forgets the active contracts unless they are to be kept. Takes no memory.
+/// Forgets the kept active contracts unless `kept` is true. Takes no memory.
 pub fn keep_active_if(active: &mut Option<KeptActive>, kept: bool)
     ensures { IsKeptIf kept active.old active.new }
 {
@@ -45,7 +45,7 @@ pub fn are_at_most(active: &Option<KeptActive>, place: u64) -> bool
     }
 }
 
-/// The kept active contracts, and none where their place is behind `end`.
+/// The kept active contracts, and none where there are none or their place is behind `end`.
 pub fn not_behind(active: &Option<KeptActive>, end: u64) -> Option<&KeptActive>
     ensures { option_copied result ≡ not_behind active.now end }
 {

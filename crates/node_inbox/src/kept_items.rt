@@ -44,7 +44,7 @@ impl Model for KeptItems {
 }
 
 impl KeptItems {
-    /// No items, from a base on.
+    /// The items of an inbox that begins at a base: those below it, the last of which has the time `base_time` in microseconds, and no others yet.
     pub fn at(alloc: Global, base: u64, base_time: u64) -> KeptItems
         requires few { base < 2 ^ 63 }
         requires early { base ≤ base_time + 1 }
@@ -58,11 +58,12 @@ impl KeptItems {
         }
     }
 
+    /// Where it takes its memory from.
     pub fn allocator(&self) -> &Global {
         self.items.allocator()
     }
 
-    /// The place below which nothing is kept.
+    /// The base: the place below which nothing is kept.
     pub fn base(&self) -> u64
         ensures within { result ≤ length self.now.items }
         ensures silent { (k : ℕ) → k < result → is_received_at (model_items self.now.items) k ≡ false }
@@ -70,14 +71,14 @@ impl KeptItems {
         self.base
     }
 
-    /// How many entries were read.
+    /// How many items there are, with those below the base: the place of the next one.
     pub fn len(&self) -> u64
         ensures { result ≡ length self.now.items }
     {
         self.base + self.items.len() as u64
     }
 
-    /// What was read at a place.
+    /// What the entry at a place brought, and none where it wasn't read. Below the base it is nothing.
     pub fn content(&self, place: u64) -> Option<&KeptContent>
         ensures { option_copied result ≡ content_in (slice_get self.now.items place) }
     {
@@ -90,7 +91,7 @@ impl KeptItems {
         }
     }
 
-    /// The time of the entry at a place, and 0 where there is none.
+    /// The time of the entry at a place, in microseconds, and 0 where it wasn't read.
     pub fn time(&self, place: u64) -> u64
         ensures { result ≡ time_in (slice_get self.now.items place) }
     {
@@ -121,7 +122,7 @@ impl KeptItems {
         }
     }
 
-    /// Makes room for one more. An error leaves the room as it was.
+    /// Makes room for one more item. An error leaves all as it was.
     pub fn reserve(&mut self) -> Result<(), AllocError>
         ensures items { self.new.items ≡ self.old.items }
         ensures room { OnOk result (0 < self.new.spare) }
@@ -129,7 +130,7 @@ impl KeptItems {
         self.items.reserve(1)
     }
 
-    /// Puts an item behind the others, in room that was made ahead.
+    /// Puts an item behind the others, in room that was made ahead. Takes no memory.
     pub fn push_within(&mut self, item: KeptItem)
         requires { 0 < self.old.spare }
         ensures { self.new.items ≡ self.old.items ++ item ∷ [] }

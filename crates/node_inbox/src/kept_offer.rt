@@ -17,7 +17,7 @@ pub enum KeptOffer {
 }
 
 impl KeptOffer {
-    /// What an envelope offers, to be kept.
+    /// Keeps what the bytes of an envelope offer, so that an opened tree can be shared with checks.
     pub fn of(alloc: Global, offered: OpenedFor) -> Result<KeptOffer, AllocError>
         ensures { IfOk result (λ kept. as_offered kept ≡ offered) }
     {
@@ -31,7 +31,7 @@ impl KeptOffer {
         }
     }
 
-    /// What is shown to who checks the request.
+    /// What is shown to the check of the request: the opened tree, shared and not copied, or the one reason for which each view is rejected.
     pub fn shown(&self) -> Result<Shown, AllocError>
         ensures { IfOk result (λ shown. shown ≡ shown_for self.now) }
     {

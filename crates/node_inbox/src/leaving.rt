@@ -52,7 +52,7 @@ fn push_row(
     }
 }
 
-/// The contracts of these rows that are neither consumed nor gone, in the order of the rows.
+/// The contracts of these rows that are neither consumed nor gone by the start, in the order of the rows.
 pub fn left_in(
     alloc: Global,
     start: &KeptStart,
@@ -116,7 +116,7 @@ fn put_row(live: &LiveRows<'_>, at: usize, ids: &mut Vec<Hash>) -> Result<(), Al
     }
 }
 
-/// The ids in `gone` and those of the consumed contracts among the rows, ascending.
+/// The ids in `gone` and those of the consumed contracts among the rows, ascending, each once.
 pub fn gone_in(alloc: Global, gone: &[Hash], live: &LiveRows<'_>) -> Result<HashList, AllocError>
     ensures { IfOk result (λ ids. ids ≡ with_parties (consumed_in live.now) gone.now) }
 {

@@ -34,7 +34,7 @@ fn smaller(before: Option<u64>, place: u64) -> u64
 }
 
 impl<'k> LiveRow<'k> {
-    /// The row of a contract that nothing created or consumed.
+    /// The row of a contract as long as nothing has created or consumed it.
     pub fn new(known: &'k Known) -> LiveRow<'k>
         ensures { result ≡ new_row known.now }
     {
@@ -45,7 +45,7 @@ impl<'k> LiveRow<'k> {
         }
     }
 
-    /// The request at a place creates the contract, or else consumes it.
+    /// Notes that the request at a place creates the contract (`is_create`), or else consumes it. Of two places of one kind the smaller stays.
     pub fn change(&mut self, place: u64, is_create: bool)
         ensures { self.new ≡ changed_row place is_create self.old }
     {
@@ -56,7 +56,7 @@ impl<'k> LiveRow<'k> {
         }
     }
 
-    /// The contract.
+    /// The row's contract.
     pub fn known(&self) -> &'k Known
         ensures { result.now ≡ self.now.known }
     {
@@ -70,7 +70,7 @@ impl<'k> LiveRow<'k> {
         self.consumed_at.is_some()
     }
 
-    /// The place of creation, where the contract is active.
+    /// The place of creation, where the contract is active, and none where it was consumed or nothing created it.
     pub fn active_since(&self) -> Option<u64>
         ensures { result ≡ active_since self.now }
     {

@@ -69,7 +69,7 @@ impl<'k> LiveRows<'k> {
         }
     }
 
-    /// A change by the request at a place.
+    /// Writes a change by the request at a place into the row of its contract, which gets a row where it has none. An error leaves the rows as they were.
     pub fn write(&mut self, place: u64, change: &'k Change) -> Result<(), AllocError>
         ensures { OnOk result (self.new ≡ write_change place change.now self.old) }
     {
@@ -77,7 +77,7 @@ impl<'k> LiveRows<'k> {
         Ok(())
     }
 
-    /// A contract was created at a place.
+    /// Writes that a contract was created at a place. An error leaves the rows as they were.
     pub fn create(&mut self, place: u64, known: &'k Known) -> Result<(), AllocError>
         ensures { OnOk result (self.new ≡ created known.now place self.old) }
     {
@@ -85,7 +85,7 @@ impl<'k> LiveRows<'k> {
         Ok(())
     }
 
-    /// Whether a contract was consumed.
+    /// Whether the contract with this id was consumed. It is false where these rows have none of it.
     pub fn is_consumed(&self, id: &Hash) -> bool
         ensures { result ≡ is_consumed (status_in self.now id.now) }
     {
@@ -99,7 +99,7 @@ impl<'k> LiveRows<'k> {
         self.rows.len()
     }
 
-    /// The row at an index, and none exactly where there are no more.
+    /// The row at an index, counted from 0, and none exactly where there are no more.
     pub fn get(&self, at: usize) -> Option<&LiveRow<'k>>
         ensures { option_copied result ≡ slice_get self.now at }
     {

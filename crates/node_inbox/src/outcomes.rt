@@ -4,7 +4,7 @@ ghost use Rattle.node_inbox.specs.Decided.{is_closed, is_without_verdict};
 
 use canton_model::Outcome;
 
-/// Whether an outcome is one of a request that is decided.
+/// Whether an outcome is that of a decided request. None, where no request was received, isn't.
 pub fn is_decided(outcome: Option<Outcome>) -> bool
     ensures { result ≡ is_closed outcome }
 {
@@ -18,7 +18,7 @@ pub fn is_decided(outcome: Option<Outcome>) -> bool
     }
 }
 
-/// Whether an outcome is one of a request without a verdict.
+/// Whether an outcome is that of a received request on which no verdict came: it is undecided, or it expired.
 pub fn is_without_verdict(outcome: Option<Outcome>) -> bool
     ensures { result ≡ is_without_verdict outcome }
 {

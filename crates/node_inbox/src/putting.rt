@@ -28,7 +28,8 @@ fn decision_of(params: &Params, time: u64) -> u64
         .saturating_add(params.reaction_timeout)
 }
 
-/// Nothing for the participant.
+/// Puts an item that brings nothing behind the others, and the registry follows. `time` is its entry's, in microseconds. An error leaves the
+/// items as they were.
 pub fn put_nothing(
     setup: &Setup,
     me: ParticipantId,
@@ -53,7 +54,8 @@ pub fn put_nothing(
     Ok(())
 }
 
-/// A request of which the participant is a recipient.
+/// Puts the item of a request of which participant `me` is a recipient behind the others, and the registry follows: the request is tracked, and holds
+/// the contracts that it changes. `time` is its entry's, in microseconds. An error leaves the items as they were.
 pub fn put_request(
     setup: &Setup,
     me: ParticipantId,
@@ -85,7 +87,8 @@ pub fn put_request(
     Ok(())
 }
 
-/// A verdict on a request that was received.
+/// Puts the item of a verdict on a request that was received behind the others, and the registry follows: where the verdict is the first on its
+/// request, that is settled and its changes are written. `time` is its entry's, in microseconds. An error leaves the items as they were.
 pub fn put_verdict(
     setup: &Setup,
     me: ParticipantId,

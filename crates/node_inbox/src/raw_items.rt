@@ -50,7 +50,7 @@ fn push_raw(item: ItemRef<'_>, raw: &mut ItemList) -> Result<(), AllocError>
     })
 }
 
-/// The items from a place on. Envelopes aren't copied.
+/// The items from the place `from` on, as a state has them. Envelopes aren't copied.
 pub fn raw_items(alloc: Global, items: &KeptItems, from: u64) -> Result<ItemList, AllocError>
     requires { from ≤ length items.now.items }
     ensures { IfOk result (λ raw. raw ≡ drop from (raw_items items.now.items)) }

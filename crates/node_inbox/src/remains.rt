@@ -16,7 +16,7 @@ pub struct InboxRemains {
 }
 
 impl InboxRemains {
-    /// The parts of an inbox.
+    /// Puts together what an inbox kept, of its parts.
     pub(crate) fn new(
         items: KeptItems,
         registry: Registry,

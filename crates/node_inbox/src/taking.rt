@@ -32,7 +32,7 @@ fn roots_out_of(alloc: Global, views: PlacedViewList) -> Result<ActionNodeList, 
     Ok(roots)
 }
 
-// They are copied where somebody else looks at them.
+// The trees of actions of an opened tree: moved out of it, or copied where somebody else looks at it.
 fn roots_taken(alloc: Global, tree: SharedTree) -> Result<ActionNodeList, AllocError>
     ensures { IfOk result (λ roots. roots ≡ put_back (placed_forest tree.views)) }
 {
@@ -53,7 +53,7 @@ fn offer_taken(alloc: Global, offer: KeptOffer) -> Result<ActionNodeList, AllocE
     }
 }
 
-// What an item opens, where it is a request that is approved.
+// Puts the commit of the item at a place behind the others, where the item is a request that is approved and something is opened of it.
 fn push_taken(
     registry: &Registry,
     place: u64,
@@ -76,7 +76,8 @@ fn push_taken(
     }
 }
 
-/// What `applied` answers, out of the items themselves.
+/// The commits of the approved requests below the place `end`, as they are opened, made of the items themselves: actions that nobody else looks at
+/// are moved and not copied.
 pub fn into_applied(
     setup: &Setup,
     items: KeptItems,

@@ -81,7 +81,7 @@ fn changes_by(
     }
 }
 
-/// What comes of a verdict, and none exactly where its request wasn't received.
+/// What comes of a verdict before it is put into the inbox of participant `me`, and none exactly where the verdict's request wasn't received.
 pub fn telling(
     alloc: Global,
     setup: &Setup,

@@ -86,7 +86,8 @@ fn push_if_withheld(
     Ok(())
 }
 
-/// The withheld places below one, in order. Goes through the approved places that are known, and on from there.
+/// The withheld places below the place `end`, ascending. `approved` has the first places of approved requests, so that only the places behind
+/// these are gone through.
 pub fn withheld(
     alloc: Global,
     setup: &Setup,

@@ -9,11 +9,11 @@ use Rattle.node_core.specs.Answers.{IsOf}
 use Rattle.node_core.specs.Participant.{HasRead, Participant, items_of, reading_of, with_state}
 use Rattle.node_restart.specs.Restarted.{HasRestarted}
 
--- the participant, which has read the entries `read`, after it has read `more` behind them
+-- The participant p, which has read the entries `read`, after it has read `more` behind them.
 abbrev pub having_read : (read more : List Entry) → Participant → Participant
 having_read read more p = with_state p (with_items p.state (items_of p ++ items_after (reading_of p) p.me read more))
 
--- the state of p with this inbox, had it never stopped and had it put back the jobs that it hadn't finished
+-- The state of p with the inbox `whole`, had it never stopped and had it put back the jobs that it hadn't finished.
 abbrev pub never_stopped : Participant → List Item → NodeState
 never_stopped p whole =
     record {
@@ -24,7 +24,7 @@ never_stopped p whole =
       outbox = (p.state).outbox;
     }
 
--- The participant `before` had read all of `log` and has restarted as `after`, and the log goes on with `more`, genuine as a whole.
+-- The participant `before` of the machine had read all of `log` and has restarted as `after`, and the log goes on with `more`, genuine as a whole.
 pub record CanGoOn (m : Machine) (log more : List Entry) (before after : Participant) : Type 0 where
   pub is_of : IsOf m before
   pub genuine : GenuineLog m (log ++ more)

@@ -15,7 +15,8 @@ use Rattle.node_core.specs.OverLog.{HasInbox}
 use Rattle.node_core.specs.Participant.{HasRead, Participant, params_of, pruned_at, reading_of}
 use Rattle.node_core.specs.States.{IsStateOf, is_done_from, items_in, owner_of, responses_from, start_in}
 
--- The participant has read all of a genuine log of fewer than 2^15 entries, of at most 255 participants.
+-- The participant p of the machine may restart, so that its state has a spelling: it has read all of the log, which is genuine and has fewer than
+-- 2^15 entries, of at most 255 participants.
 pub record CanRestart (m : Machine) (log : List Entry) (p : Participant) : Type 0 where
   pub is_of : IsOf m p
   pub hosts : length (p.topology).hosts ≤ 255
@@ -23,14 +24,14 @@ pub record CanRestart (m : Machine) (log : List Entry) (p : Participant) : Type 
   pub short : length log < 2 ^ 15
   pub read : HasRead m log p
 
--- `pruned` is the state, pruned to the base of its inbox: that of its participant, had that been pruned there.
+-- `pruned` is `state`, pruned to the base of its inbox: the state that the participant of `state` would have, had it been pruned there.
 pub record IsPrunedFrom (topology : Topology) (packages : Packages) (state pruned : State) : Type 0 where
   pub base : pruned.base ≡ Base.base topology.params (items_in topology state)
   pub start : GoesOn (framed_reading topology packages) (items_in topology state) pruned.base (start_in state) (start_in pruned)
   pub is : IsStateOf (pruned_at pruned.base (start_in pruned) (owner_of topology packages state)) pruned
 
--- `after` is the participant `before`, restarted. It has read the same log, and forgotten what is below the base of its inbox, with the
--- jobs and responses to requests there. Nothing is unfinished: what wasn't finished is claimed again.
+-- `after` is the participant `before` of the machine, restarted when it had read the log. It has read the same log, and forgotten what is below the
+-- base of its inbox, with the jobs and responses to requests there. Nothing is unfinished: what wasn't finished is claimed again.
 pub record HasRestarted (m : Machine) (log : List Entry) (before after : Participant) : Type 0 where
   pub topology : after.topology ≡ before.topology
   pub packages : after.packages ≡ before.packages

@@ -10,8 +10,9 @@ use Rattle.node_state.specs.declared.node_state.NodeState.{NodeState as State}
 use Rattle.node_core.specs.Participant.{IsPrunedTo, Participant, params_of, reading_of}
 use Rattle.node_core.specs.States.{IsStateOf}
 
--- At most 255 participants have written a genuine log of fewer than 2^15 entries, of which p has what stands from its base on. It has
--- claimed requests of the log alone, and to such a request is each response that waits, with what is owed. `state` is the state of p.
+-- What a participant p needs so that its state has a spelling. It has read a genuine log of fewer than 2^15 entries, of at most 255 participants, and
+-- keeps the inbox of it from its base on. It has claimed places of the log alone, and each response that waits is to such a place, with the verdicts
+-- that it owes there. `state` is the state of p.
 pub record HasReadShort (p : Participant) (log : List Entry) (state : State) : Type 0 where
   pub hosts : length (p.topology).hosts ≤ 255
   pub genuine : Genuine (reading_of p) (params_of p) log

@@ -32,8 +32,8 @@ pub fn pruned_states_restart()
         → HasRestarted m log p (begun_again p.topology p.packages pruned) }
 {}
 
-/// Whatever it reads then, a participant that has restarted answers all that is asked of places from its base on as one that never stopped
-/// and has taken back what it hadn't finished, and claims and sends next what that does.
+/// Whatever it reads after its restart, a participant answers all that is asked of places from its base on as one that never stopped and has put back
+/// what it hadn't finished, and claims and sends next what that one does.
 pub fn restarted_participants_go_on()
     ensures read { (m : Machine) (log more : List Entry) (before after : Participant) → CanGoOn m log more before after
         → HasRead m (log ++ more) (having_read log more after) }

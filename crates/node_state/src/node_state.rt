@@ -10,10 +10,13 @@ pub type ResponseList = ListOf<Response>;
 /// opened to it, create or consume: `active` and `gone`.
 #[derive(Drop)]
 pub struct NodeState {
+    /// Which participant it is.
     pub me: ParticipantId,
+    /// The base: requests below this place are forgotten.
     pub base: u64,
     /// The time of the entry before the base, in microseconds, or 0.
     pub base_time: u64,
+    /// Whether it is paused.
     pub paused: bool,
     /// The contracts that are created below the base and not consumed there, with a hosted stakeholder or without one, in order of
     /// creation.
@@ -22,6 +25,7 @@ pub struct NodeState {
     pub gone: HashList,
     /// The inbox from the base on.
     pub items: ItemList,
+    /// The responses that it hasn't sent.
     pub outbox: ResponseList,
     /// The places at or after the base whose job was finished and not put back since, ascending.
     pub done: U64List,

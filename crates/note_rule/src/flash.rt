@@ -29,7 +29,8 @@ fn is_go(instance: &Instance) -> bool
     instance.template == note_template_name() && says_go(instance.fields.get(2))
 }
 
-/// A note whose text is `go` flashes, whatever the rule. Nothing is done about other contracts.
+/// What a rule of the program, whichever it is, answers about a contract: a note whose text is `go` flashes. None, by which nothing is done, is
+/// the answer about all other contracts.
 pub fn flash_on_go(alloc: Global, known: &Known) -> Result<Option<Command>, AllocError>
     ensures answer { IfOk result (λ answer. answer ≡ flash_on_go known.now) }
     ensures exercise { IfOk result (λ answer. IfSome answer (IsExerciseOf known.now)) }

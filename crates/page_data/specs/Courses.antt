@@ -13,7 +13,7 @@ use Rattle.node_inbox.specs.InboxState.{InboxState, reading_of}
 use Rattle.page_data.specs.Knowledge.{knowledge_of}
 use Rattle.page_data.specs.declared.knowledge.Knowledge.{Knowledge}
 
--- the inbox of a participant that has read a log and forgotten nothing of it
+-- The inbox of participant `me`, which has read a whole log and forgotten nothing of it.
 abbrev pub inbox_over : Topology → Packages → ParticipantId → List Entry → InboxState
 inbox_over topology packages me log =
     record {
@@ -26,17 +26,17 @@ inbox_over topology packages me log =
       items = inbox (framed_reading topology packages) me log;
     }
 
--- what a participant that forgets nothing knows at a place of a log, when it has read the entries below
+-- What participant `me`, which forgets nothing, knows at a place of a log: when it has read the entries below that.
 abbrev pub knowledge_at : Topology → Packages → ParticipantId → List Entry → (place : ℕ) → Knowledge
 knowledge_at topology packages me log place = knowledge_of (inbox_over topology packages me (take place log))
 
--- what it knows at each place, from 0 up to this one
+-- What participant `me`, which forgets nothing, knows at each place of a log, from 0 up to this one, in order.
 abbrev pub each_knowledge : Topology → Packages → ParticipantId → List Entry → (place : ℕ) → List Knowledge
 each_knowledge topology packages me log zero = knowledge_at topology packages me log zero ∷ []
 each_knowledge topology packages me log (suc place) =
     each_knowledge topology packages me log place ++ knowledge_at topology packages me log (suc place) ∷ []
 
--- an inbox may read the entry next: few items were read, the entry is later than the last of them, and its request is framed
+-- An inbox may read the entry next: not too many items were read, the entry is later than the last of them, and its request, if it brings one, is framed.
 pub record MayRead (inbox : InboxState) (entry : Entry) : Type 0 where
   pub few : length inbox.items < 2 ^ 63
   pub rises : last_time inbox.items < entry.time

@@ -15,15 +15,16 @@ use Rattle.page_data.specs.declared.contract_state.ContractState.{ContractState}
 use Rattle.page_data.specs.declared.knowledge.Knowledge.{Knowledge}
 use Rattle.page_data.specs.declared.request_state.RequestState.{RequestState}
 
--- the inbox has no start: all that it knows of contracts comes of its items
+-- The inbox has forgotten nothing, so all that it knows of contracts comes of its items.
 abbrev pub HasNoStart : InboxState → Type 0
 HasNoStart inbox = inbox.start ≡ no_start
 
--- the contracts of which approved requests told the participant, each with the places that created and consumed it
+-- The contracts of which approved requests told the participant, in the order in which they came, each with the places of the requests that
+-- created and consumed it.
 abbrev pub store_rows : InboxState → List StoreRow
 store_rows inbox = written (changes_in (reading_of inbox) inbox.items) []
 
--- the status of a contract and whether a request holds it, by all items that were read
+-- What the participant knows of the contract with this id where it has read to: its status, and whether an undecided request holds it.
 abbrev pub contract_state : InboxState → Hash → ContractState
 contract_state inbox id =
     record {
@@ -32,30 +33,30 @@ contract_state inbox id =
       is_locked = is_locked_in_inbox (reading_of inbox) (params_of inbox) inbox.items (length inbox.items) id;
     }
 
--- the state of each contract of which approved requests told the participant
+-- What the participant knows of each contract of which approved requests told it, in the order in which they came.
 abbrev pub contract_states : InboxState → List ContractState
 contract_states inbox = map (λ (row : StoreRow). contract_state inbox row.known.id) (store_rows inbox)
 
--- what the participant knows of the request at a place, by what became of it; nothing where that is None, as no request was received
+-- A list of what the participant knows of the one request at a place, by what became of it. It is empty for None, where no request was received.
 abbrev pub with_outcome : InboxState → ℕ → Option Outcome → List RequestState
 with_outcome inbox place None = []
 with_outcome inbox place (Some outcome) =
     record { place = place; outcome = outcome; owes = owes_at (reading_of inbox) inbox.me inbox.items place } ∷ []
 
--- the request at a place, where it was received
+-- A list of what the participant knows of the one request at a place, and an empty one where none was received there.
 abbrev pub request_states_at : InboxState → ℕ → List RequestState
 request_states_at inbox place = with_outcome inbox place (outcome_received (params_of inbox) inbox.items place)
 
--- the requests that were received below a place
+-- What the participant knows of the requests that it received below a place, in order of place.
 abbrev pub request_states_below : InboxState → ℕ → List RequestState
 request_states_below inbox zero = []
 request_states_below inbox (suc place) = request_states_below inbox place ++ request_states_at inbox place
 
--- the ids of the participant's active contracts at the place up to which it has read
+-- The ids of the participant's active contracts where it has read to, in order of creation.
 abbrev pub active_ids : InboxState → List Hash
 active_ids inbox = map (λ (row : ActiveRow). row.known.id) (node_active (reading_of inbox) inbox.me inbox.items (length inbox.items))
 
--- all that is told of what the participant knows by this inbox
+-- All that a page tells of what the participant knows, by its inbox.
 abbrev pub knowledge_of : InboxState → Knowledge
 knowledge_of inbox =
     record {
@@ -67,15 +68,15 @@ knowledge_of inbox =
       requests = request_states_below inbox (length inbox.items);
     }
 
--- the row alone, where there is one
+-- A list of the one row, and an empty one where there is none.
 abbrev pub rows_in : Option StoreRow → List StoreRow
 rows_in None = []
 rows_in (Some row) = row ∷ []
 
--- the one with this index in `store_rows`, where there is one
+-- A list of the one row that stands at this index in `store_rows`, counted from 0, and an empty one where there is none.
 abbrev pub store_rows_at : InboxState → ℕ → List StoreRow
 store_rows_at inbox at = rows_in (slice_get (store_rows inbox) at)
 
--- the state of the contract with this index there
+-- A list of what the participant knows of the one contract at this index in `store_rows`, and an empty one where there is none.
 abbrev pub contract_states_at : InboxState → ℕ → List ContractState
 contract_states_at inbox at = map (λ (row : StoreRow). contract_state inbox row.known.id) (store_rows_at inbox at)

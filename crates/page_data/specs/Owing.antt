@@ -4,14 +4,14 @@ use Rattle.world_model.specs.Node.{owed_at, owes_at}
 use Rattle.node_inbox.specs.InboxState.{InboxState, params_of, reading_of}
 use Rattle.page_data.specs.declared.owed.Owed.{Owed}
 
--- what the participant owes to the request at a place, where it owes something
+-- A list of the verdicts that the participant owes to the one request at a place, and an empty one where it owes none there.
 abbrev pub owed_at_place : InboxState → ℕ → List Owed
 owed_at_place inbox place =
     if owes_at (reading_of inbox) inbox.me inbox.items place
     then record { place = place; verdicts = owed_at (reading_of inbox) (params_of inbox) inbox.me inbox.items place } ∷ []
     else []
 
--- what it owes to the requests below a place, in order
+-- The verdicts that the participant owes to each request below a place, in order of place.
 abbrev pub owed_below : InboxState → ℕ → List Owed
 owed_below inbox zero = []
 owed_below inbox (suc place) = owed_below inbox place ++ owed_at_place inbox place

@@ -86,7 +86,8 @@ fn put_row(inbox: &Inbox<'_>, at: usize, rows: &mut StoreRowList) -> Result<(), 
     Ok(())
 }
 
-/// All contracts of which approved requests told a participant.
+/// The contracts of which approved requests told a participant that has forgotten nothing, in the order in which they came, each with the places of
+/// the requests that created and consumed it.
 pub fn store_rows(alloc: Global, inbox: &Inbox<'_>) -> Result<StoreRowList, AllocError>
     requires { HasNoStart inbox.now }
     ensures { IfOk result (λ rows. rows ≡ store_rows inbox.now) }
@@ -143,7 +144,7 @@ fn active_ids(alloc: Global, inbox: &Inbox<'_>) -> Result<HashList, AllocError>
     ids_of(alloc, &rows)
 }
 
-/// What a participant knows, by what it has read.
+/// What a participant that has forgotten nothing knows, by what it has read.
 pub fn knowledge_of(alloc: Global, inbox: &Inbox<'_>) -> Result<Knowledge, AllocError>
     requires { HasNoStart inbox.now }
     ensures { IfOk result (λ knowledge. knowledge ≡ knowledge_of inbox.now) }

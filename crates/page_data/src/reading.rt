@@ -92,7 +92,8 @@ fn read_course(alloc: Global, inbox: &mut Inbox<'_>, log: &[Entry]) -> Result<Co
     })
 }
 
-/// What a participant that forgets nothing learns of a log. It reads it as in the run, and is asked at each place.
+/// What participant `me`, which forgets nothing, learns of a genuine log. It reads the log as it did in the run, and is asked for what it knows
+/// before the first entry and after each.
 pub fn course_of(
     alloc: Global,
     setup: &Setup,

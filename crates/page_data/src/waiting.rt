@@ -126,7 +126,8 @@ fn open_requests(
     Ok(all)
 }
 
-/// Before the first entry of a log and after each: the requests without a verdict, and for whom the mediator waits.
+/// Before the first entry of a log and after each: the requests without a verdict, and for whom the mediator waits. So there is one list more than
+/// there are entries.
 pub fn waiting_over(
     alloc: Global,
     params: &Params,

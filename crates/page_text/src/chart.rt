@@ -20,7 +20,7 @@ pub(crate) struct Chart {
     pub lanes: Lanes,
 }
 
-/// At most `most` letters of a text, with an ellipsis where it has more.
+/// At most `most` letters of a text; where it has more, the last of these is an ellipsis.
 pub(crate) fn shortened(alloc: Global, text: &str, most: u32) -> Result<String, AllocError> {
     let mut kept = String::new(alloc);
     if text.chars().count() <= most as usize {
@@ -35,7 +35,7 @@ pub(crate) fn shortened(alloc: Global, text: &str, most: u32) -> Result<String, 
 }
 
 impl Chart {
-    /// Draws a line of text, cut where it has more than `most` letters, with the whole text as its title then.
+    /// Draws a line of text. Where it has more than `most` letters it is cut, and has the whole text as its title.
     pub fn words(&mut self, label: &Label, words: &str, most: u32) -> Result<(), AllocError> {
         let short = shortened(self.alloc, words, most)?;
         if short.as_str() == words {
@@ -45,6 +45,7 @@ impl Chart {
         }
     }
 
+    /// Draws the line of a lane down to the height `end`; `x` is how far it is from the left edge.
     fn lane(&mut self, x: u32, end: u32) -> Result<(), AllocError> {
         let stroke = Stroke {
             tone: Tone::Quiet,
@@ -54,7 +55,8 @@ impl Chart {
         self.svg.line(top, Point { x, y: end }, stroke)
     }
 
-    /// Draws the frame of the row with its top at `y`. The frame is seen where the row is that of the entry read last.
+    /// Draws the frame of the row whose top is `y` units from that of the chart. The style sheet hides it, but in the row of the entry that was read
+    /// last.
     pub fn frame(&mut self, y: u32) -> Result<(), AllocError> {
         let frame = Frame {
             corner: Point {
@@ -87,7 +89,7 @@ fn draw_lanes(chart: &mut Chart, story: &Story<'_>, end: u32) -> Result<(), Allo
     }
 }
 
-/// The chart of the log: who sent what to whom.
+/// The chart of the page's entries as SVG: who sent what to whom, as far as the page tells it.
 pub(crate) fn chart_of(story: &Story<'_>) -> Result<Text, AllocError> {
     let rows = story.log.len().min(MOST_ROWS) as u32;
     let end = rows.saturating_mul(ROW);

@@ -39,6 +39,7 @@ pub(crate) fn draw_rows(chart: &mut Chart, story: &Story<'_>) -> Result<(), Allo
     Ok(())
 }
 
+/// The label of a text that begins `x` units from the left and whose letters have their middle at `y`.
 fn label(x: u32, y: u32, font: Font, tone: Tone) -> Label {
     Label {
         at: Point {
@@ -60,6 +61,7 @@ fn draw_place(chart: &mut Chart, y: u32, place: u64, time: u64) -> Result<(), Al
     chart.svg.text(&lower, time.as_str())
 }
 
+/// Draws what the page tells of an entry; where it tells nothing, words say so.
 fn draw_entry(
     chart: &mut Chart,
     story: &Story<'_>,
@@ -89,6 +91,7 @@ fn solid(tone: Tone) -> Stroke {
     }
 }
 
+/// Draws an arrow along the height `y` with a dot where it begins; `from` and `to` are units from the left.
 fn draw_arrow(
     chart: &mut Chart,
     from: u32,
@@ -116,6 +119,7 @@ fn draw_words(
     chart.words(&label(SAYS, y, font, tone), words, LETTERS)
 }
 
+/// Writes the words of an entry that has no arrows.
 fn draw_rest(chart: &mut Chart, y: u32, words: &str) -> Result<(), AllocError> {
     draw_words(
         chart,
@@ -126,7 +130,7 @@ fn draw_rest(chart: &mut Chart, y: u32, words: &str) -> Result<(), AllocError> {
     )
 }
 
-/// Draws the arrows from the log to those who received the request.
+/// Draws an arrow from the lane at `from` to each participant of whom the page tells that received the request at a place.
 fn draw_recipients(
     chart: &mut Chart,
     story: &Story<'_>,
@@ -186,6 +190,7 @@ fn put_verdicts(words: &mut String, verdicts: &ViewVerdictList) -> Result<(), Al
     Ok(())
 }
 
+/// Whether all of the verdicts approve.
 fn is_approval(verdicts: &ViewVerdictList) -> bool {
     verdicts.as_slice().iter().all(|said| match said.verdict {
         LocalVerdict::Approve => true,

@@ -9,7 +9,7 @@ use ledger_terms::{Hash, ListOf};
 use page_data::{ContractState, Knowledge};
 use std::alloc::{AllocError, Global};
 
-/// What is said of a contract: its status, whether it is locked, and whether it is one of the participant's active contracts.
+/// What is said of a contract at a place: its status, whether it is locked, and whether it is one of the participant's active contracts.
 #[derive(Clone, Copy, PartialEq, Eq)]
 struct ContractFacts {
     status: Status,
@@ -17,14 +17,15 @@ struct ContractFacts {
     is_own: bool,
 }
 
-/// The same, with how long it is so.
+/// What is said of a contract, and the places at which that is so.
 #[derive(Clone, Copy)]
 struct Held {
     stay: Stay,
     facts: ContractFacts,
 }
 
-/// What is known of the contract, which stands at that index where it is known.
+/// What is known of a contract at a place. Contracts have one order at all places, so it stands at `index`. None: the participant isn't told of it
+/// yet.
 fn state_of(knowledge: &Knowledge, index: usize, id: &Hash) -> Option<ContractState> {
     match knowledge.contracts.get(index) {
         Some(state) if state.id == *id => Some(*state),
@@ -32,10 +33,13 @@ fn state_of(knowledge: &Knowledge, index: usize, id: &Hash) -> Option<ContractSt
     }
 }
 
+/// Whether a contract is one of the participant's active contracts at a place.
 fn is_own(knowledge: &Knowledge, id: &Hash) -> bool {
     knowledge.active.as_slice().iter().any(|own| *own == *id)
 }
 
+/// What is said of a contract at a place, None where the participant isn't told of it yet. Where status and lock are those of `before`, which was
+/// said at the place before, the rest is so too and isn't looked up again.
 fn facts_of(
     knowledge: &Knowledge,
     index: usize,
@@ -58,7 +62,7 @@ fn facts_of(
     }
 }
 
-/// What is said of a contract, for how long.
+/// What is said of a contract from place to place: one item for each stretch of places over which it stays the same.
 fn facts_over_time(
     alloc: Global,
     teller: &Teller,
@@ -117,6 +121,7 @@ fn put_facts(html: &mut Html, row: &StoreRow, facts: &ContractFacts) -> Result<(
     Ok(())
 }
 
+/// Puts a row of the table for each stretch of places over which the same is said of the contract.
 fn put_rows(
     html: &mut Html,
     story: &Story<'_>,

@@ -62,8 +62,8 @@ impl Html {
         self.out.push_str(picture.as_str())
     }
 
-    /// Begins an element with this name that is seen only while the reader is at one of the places of `stay`. Without the script it is seen where the
-    /// page's last place, `last`, is one.
+    /// Begins an element with this name that is seen only while the reader is at one of the places of `stay`. The page is written as it is seen at
+    /// its last place, `last`, and stays so where the script doesn't run.
     pub(crate) fn begin_at(
         &mut self,
         name: &'static str,

@@ -37,13 +37,14 @@ fn put_withheld(html: &mut Html, places: &U64List) -> Result<(), AllocError> {
     html.markup(".</span>")
 }
 
+/// Whether the clean place, its time and the withheld places are the same. Withheld places are only added from place to place, so their number tells.
 fn is_same(one: &Knowledge, other: &Knowledge) -> bool {
     one.clean == other.clean
         && one.clean_time == other.clean_time
         && one.withheld.len() == other.withheld.len()
 }
 
-/// Puts the clean place, each as long as it was so.
+/// Puts the clean place with what is withheld below it: a line for each stretch of places over which that stays the same.
 fn put_cleans(html: &mut Html, story: &Story<'_>, teller: &Teller) -> Result<(), AllocError> {
     let states = teller.course.states.as_slice();
     let Some((first, others)) = states.split_first() else {
@@ -71,7 +72,7 @@ fn put_parties(html: &mut Html, what: &'static str, parties: &[Name]) -> Result<
     Ok(())
 }
 
-/// Puts for whom it answers, and whom it only observes.
+/// Puts the parties that the participant confirms for, and those that it only observes.
 fn put_hosted(html: &mut Html, story: &Story<'_>, teller: &Teller) -> Result<(), AllocError> {
     html.markup("<p class=\"quiet\">")?;
     if let Some(host) = story.setup.topology.host(teller.me) {

@@ -4,7 +4,7 @@ use crate::lanes::Lanes;
 use crate::story::Story;
 use std::alloc::AllocError;
 
-/// Puts a part of the chart's width, given in thousandths, as the chart has units.
+/// Puts a width in units as a percentage of the chart's width, which is 1,000 units.
 fn put_percent(html: &mut Html, units: u32) -> Result<(), AllocError> {
     html.number((units / 10) as u64)?;
     html.markup(".")?;
@@ -12,6 +12,7 @@ fn put_percent(html: &mut Html, units: u32) -> Result<(), AllocError> {
     html.markup("%")
 }
 
+/// Puts the name of the lane whose middle is at `middle` units, above it.
 fn put_lane_name(
     html: &mut Html,
     lanes: &Lanes,

@@ -27,7 +27,7 @@ pub(crate) struct Lanes {
 }
 
 impl Lanes {
-    /// The lanes of a page, which share the room, each at most `MOST_STEP` wide.
+    /// The lanes of a page: one for each participant of which it tells, and those beside them. They share the room, each at most `MOST_STEP` wide.
     pub fn of(story: &Story<'_>) -> Lanes {
         let participants = story.tellers.len().min(MOST_PARTICIPANTS) as u32;
         let step = (ROOM / (participants + OTHERS)).min(MOST_STEP);
@@ -39,18 +39,20 @@ impl Lanes {
         self.step
     }
 
-    /// How far from the left edge the middle of the lane with this number is.
+    /// How far from the left edge the middle of the lane with this number is, in units. The numbers count from 0: the participants of which the page
+    /// tells, then the log, then the mediator.
     pub fn middle(&self, number: u32) -> u32 {
         LEFT.saturating_add(self.step / 2)
             .saturating_add(self.step.saturating_mul(number))
     }
 
-    /// How far from the left edge the middle of the log's lane is.
+    /// How far from the left edge the middle of the log's lane is, in units.
     pub fn log(&self) -> u32 {
         self.middle(self.participants)
     }
 
-    /// How far from the left edge the middle of the mediator's lane is, which is the log's where the page tells of one participant.
+    /// How far from the left edge the middle of the mediator's lane is, in units. A page for one participant has no such lane, and the log's stands
+    /// for it.
     pub fn mediator(&self, story: &Story<'_>) -> u32 {
         match story.reader {
             Some(_) => self.log(),
@@ -58,7 +60,7 @@ impl Lanes {
         }
     }
 
-    /// How far from the left edge the middle of a participant's lane is, where it has one.
+    /// How far from the left edge the middle of a participant's lane is, in units. None: the page doesn't tell of the participant.
     pub fn participant(&self, story: &Story<'_>, at: ParticipantId) -> Option<u32> {
         for (number, teller) in (0..=255u32).zip(story.tellers.as_slice()) {
             if teller.me == at {

@@ -8,6 +8,7 @@ use ledger_terms::ParticipantIdList;
 use page_data::{OpenRequest, OpenRequestList};
 use std::alloc::AllocError;
 
+/// The open request at this place of the log among those of a list. None: it isn't open there.
 fn open_at(list: &OpenRequestList, request: u64) -> Option<&OpenRequest> {
     for open in list.as_slice() {
         if open.place == request {
@@ -48,11 +49,12 @@ fn put_row(
     html.markup("</td></tr>\n")
 }
 
+/// Whether the mediator waits for the same participants.
 fn is_same(one: &OpenRequest, other: &OpenRequest) -> bool {
     one.missing.as_slice() == other.missing.as_slice()
 }
 
-/// Puts a row for a request, each as long as it was so.
+/// Puts a request's rows of the table: one for each stretch of places over which the mediator waits for the same participants.
 fn put_rows(
     html: &mut Html,
     story: &Story<'_>,
@@ -84,7 +86,7 @@ fn put_rows(
     }
 }
 
-/// Puts the part of the page that says for whom the mediator waits.
+/// Puts the part of the page that says of each request without a verdict for whom the mediator waits.
 pub(crate) fn put_mediation(html: &mut Html, story: &Story<'_>) -> Result<(), AllocError> {
     html.markup(
         "<section class=\"who\" aria-labelledby=\"mediator\"><h3 id=\"mediator\">Mediator</h3>\n<h4>Requests without a verdict</h4>\n",

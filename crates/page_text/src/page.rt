@@ -19,7 +19,7 @@ use ledger_terms::{ParticipantId, Text};
 use page_data::{course_of, waiting_over};
 use std::alloc::{AllocError, Global};
 
-/// What of whom the page tells.
+/// The participants of whom the page tells, with what they learnt: all, or `reader` alone.
 fn tellers_of(
     alloc: Global,
     setup: &Setup,
@@ -80,8 +80,8 @@ fn put_parts(html: &mut Html, story: &Story<'_>) -> Result<(), AllocError> {
     html.markup("</div></section>\n</main>\n")
 }
 
-/// The page of a log's first entries as HTML: of all participants and the mediator, or of what `reader` knows and nothing else. The whole
-/// log has `entries` entries, and `log` are the first of them.
+/// The page of a log's first entries as HTML: of all participants and the mediator, or, where `reader` is a participant, of what that one knows and
+/// nothing else. The setup has the topology and the packages; the whole log has `entries` entries, and `log` are the first of them.
 pub fn page_of<'p>(
     alloc: Global,
     setup: &'p Setup,

@@ -11,7 +11,7 @@ use ledger_terms::{ParticipantId, Path};
 use std::alloc::AllocError;
 use view_picture::shown_action;
 
-/// The number of the action by which a response rejects a view.
+/// The number of the action by which a response rejects a view. None: it doesn't reject the view.
 fn action_in(response: &Response, view: &Path) -> Option<u16> {
     for said in response.verdicts.as_slice() {
         if let LocalVerdict::Reject { action, .. } = &said.verdict {
@@ -23,7 +23,8 @@ fn action_in(response: &Response, view: &Path) -> Option<u16> {
     None
 }
 
-/// Puts the action that shows the reason, as the participant that rejects is shown it.
+/// Puts the action that shows why `from` rejects a view of the request at a place, as that participant is shown it; nothing where there is no
+/// response.
 fn put_action(
     html: &mut Html,
     story: &Story<'_>,
@@ -62,6 +63,7 @@ fn put_rule(html: &mut Html, reason: Reason) -> Result<(), AllocError> {
     html.markup(CHECKS)
 }
 
+/// Puts what shows that a request wasn't approved, and the rule by which that is so.
 fn put_why(
     html: &mut Html,
     story: &Story<'_>,
@@ -85,6 +87,7 @@ fn put_why(
     }
 }
 
+/// Begins the row of the request at a place, which is seen from the place `from` on.
 fn put_head(
     html: &mut Html,
     story: &Story<'_>,
@@ -104,6 +107,7 @@ fn put_head(
     html.markup("</th><td>")
 }
 
+/// The lesser of both, or `at` where there is no first one yet.
 fn earlier(first: Option<u64>, at: u64) -> u64 {
     match first {
         Some(found) => found.min(at),
@@ -111,7 +115,7 @@ fn earlier(first: Option<u64>, at: u64) -> u64 {
     }
 }
 
-/// The first place at which somebody of whom the page tells knows that a request is expired.
+/// The first place at which somebody of whom the page tells knows that the request is expired. None: nobody knows it on the page's entries.
 fn expired_from(story: &Story<'_>, place: u64) -> Option<u64> {
     let mut first: Option<u64> = None;
     for teller in story.tellers.as_slice() {
@@ -126,6 +130,7 @@ fn expired_from(story: &Story<'_>, place: u64) -> Option<u64> {
     first
 }
 
+/// Puts the row of a request that is expired, if it is.
 fn put_expired(
     html: &mut Html,
     story: &Story<'_>,
@@ -142,6 +147,7 @@ fn put_expired(
     Ok(())
 }
 
+/// Puts the row of a request whose verdict stands at the place `at`, if that doesn't approve it.
 fn put_verdict(
     html: &mut Html,
     story: &Story<'_>,

@@ -23,7 +23,7 @@ fn put_outcome(
     html.markup("</span></span>")
 }
 
-/// Puts what became of the request, each as long as it was so.
+/// Puts what became of the request, as the participant knows it: a text for each stretch of places over which that stays the same.
 fn put_outcomes(
     html: &mut Html,
     story: &Story<'_>,
@@ -55,6 +55,7 @@ fn put_outcomes(
     }
 }
 
+/// Puts the row of a request, which is seen from the place behind it on.
 fn put_request(
     html: &mut Html,
     story: &Story<'_>,

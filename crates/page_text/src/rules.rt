@@ -1,7 +1,7 @@
 //! The rules by which requests aren't approved, in the words of docs/PROTOCOL.md.
 use canton_model::Reason;
 
-/// When a participant rejects a view for this reason.
+/// The rule by which a participant rejects a view for this reason, to be read behind `holds where`.
 pub(crate) fn rule_of(reason: Reason) -> &'static str {
     match reason {
         Reason::RootMismatch => {

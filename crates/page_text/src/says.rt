@@ -6,7 +6,7 @@ use crate::words::{put_decision, put_name, put_verdicts};
 use canton_model::{Entry, Message, Request};
 use std::alloc::AllocError;
 
-/// Puts a request with its command, where that is told: to its sender alone, and in the page of all.
+/// Puts who sent a request, and its command. A page for one participant has the command only where that is the sender.
 pub(crate) fn put_request_words(
     html: &mut Html,
     story: &Story<'_>,
@@ -21,7 +21,7 @@ pub(crate) fn put_request_words(
     Ok(())
 }
 
-/// Puts what an entry brings, as far as the page tells it.
+/// Puts what an entry says, as far as the page tells it.
 pub(crate) fn put_entry_words(
     html: &mut Html,
     story: &Story<'_>,
@@ -51,6 +51,7 @@ pub(crate) fn put_entry_words(
     }
 }
 
+/// Puts the line of the place behind an entry.
 fn put_place(
     html: &mut Html,
     story: &Story<'_>,
@@ -74,7 +75,7 @@ fn put_place(
     html.markup(".</p>\n")
 }
 
-/// Puts a line for each place of the page, of which one is seen at a time.
+/// Puts a line for each place of the page. One of them is seen at a time.
 pub(crate) fn put_places(html: &mut Html, story: &Story<'_>) -> Result<(), AllocError> {
     let first = Stay { from: 0, to: 0 };
     html.markup("<div id=\"said\" aria-live=\"polite\">")?;

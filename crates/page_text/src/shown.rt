@@ -14,6 +14,7 @@ const STEP: u32 = 10;
 
 const MOST_STEPS: u32 = 12;
 
+/// The class of the style sheet for a line of this kind.
 fn class_of(kind: LineKind) -> &'static str {
     match kind {
         LineKind::Title | LineKind::Request | LineKind::Detail => "detail",
@@ -24,6 +25,7 @@ fn class_of(kind: LineKind) -> &'static str {
     }
 }
 
+/// Puts a line. Its indent, which has units in a picture, becomes one of the page's steps.
 fn put_line(html: &mut Html, line: &Line) -> Result<(), AllocError> {
     let steps = (line.at.x / STEP).min(MOST_STEPS);
     html.markup("<div class=\"")?;
@@ -50,7 +52,7 @@ fn put_chip(html: &mut Html, chip: &Chip) -> Result<(), AllocError> {
     html.markup("</span> ")
 }
 
-/// How many views, actions and hashes there are, and whether something is withheld.
+/// How many actions and hashes there are among pieces, and whether something is withheld.
 #[derive(Clone, Copy)]
 struct Amounts {
     actions: u64,
@@ -77,6 +79,7 @@ fn amounts_of(pieces: &[Piece]) -> Amounts {
     amounts
 }
 
+/// Puts the line that is seen where the rest is folded.
 fn put_summary(html: &mut Html, amounts: Amounts) -> Result<(), AllocError> {
     html.markup("<summary>")?;
     if amounts.is_withheld {

@@ -1,6 +1,6 @@
 //! How long something is so.
 
-/// The places from one to another, both of them.
+/// The places at which a part of the page is seen: those from `from` to `to`, both of them.
 #[derive(Clone, Copy)]
 pub(crate) struct Stay {
     pub from: u64,
@@ -8,7 +8,7 @@ pub(crate) struct Stay {
 }
 
 impl Stay {
-    /// Whether the place is one from `from` to `to`.
+    /// Whether the part is seen at this place.
     pub fn has(self, place: u64) -> bool {
         self.from <= place && place <= self.to
     }

@@ -20,7 +20,7 @@ pub(crate) struct Story<'p> {
 }
 
 impl<'p> Story<'p> {
-    /// The last place of the page: that behind its last entry.
+    /// The last place of the page: that behind its last entry, so the number of its entries.
     pub fn last(&self) -> u64 {
         self.log.len() as u64
     }
@@ -30,7 +30,7 @@ impl<'p> Story<'p> {
         self.entries > self.last()
     }
 
-    /// The name of a participant, if it is one of the topology.
+    /// The name of a participant. None: the topology has no such participant.
     pub fn name(&self, at: ParticipantId) -> Option<&Name> {
         match self.setup.topology.host(at) {
             Some(host) => Some(&host.name),
@@ -38,7 +38,7 @@ impl<'p> Story<'p> {
         }
     }
 
-    /// The request that stands at a place, if one does.
+    /// The request that stands at a place of the page's entries. None: another entry stands there, or none.
     pub fn request(&self, place: u64) -> Option<&'p Request> {
         let entry = self.log.get(place as usize)?;
         match &entry.message {
@@ -47,7 +47,7 @@ impl<'p> Story<'p> {
         }
     }
 
-    /// Whether somebody of whom the page tells received the request at a place.
+    /// Whether the page tells of the request at a place: somebody of whom it tells received it.
     pub fn is_told(&self, place: u64) -> bool {
         self.tellers
             .as_slice()
@@ -55,7 +55,7 @@ impl<'p> Story<'p> {
             .any(|teller| teller.received(place))
     }
 
-    /// Whether the page tells what a participant does.
+    /// Whether the page tells of this participant: the page of all does, and one for a reader of the reader alone.
     pub fn tells_of(&self, at: ParticipantId) -> bool {
         match self.reader {
             Some(me) => me == at,

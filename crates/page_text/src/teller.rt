@@ -13,7 +13,7 @@ pub(crate) struct Teller {
 /// Participants of whom a page tells, in the order of the topology.
 pub(crate) type TellerList = ListOf<Teller>;
 
-/// What is known of the request at a place, if that was received.
+/// What is known of the request at a place of the log. None: the participant hasn't received it.
 pub(crate) fn request_in(knowledge: &Knowledge, place: u64) -> Option<RequestState> {
     for request in knowledge.requests.as_slice() {
         if request.place == place {
@@ -24,7 +24,7 @@ pub(crate) fn request_in(knowledge: &Knowledge, place: u64) -> Option<RequestSta
 }
 
 impl Teller {
-    /// Whether the participant received the request at a place of the page's entries.
+    /// Whether the participant received the request at this place of the page's entries.
     pub fn received(&self, place: u64) -> bool {
         match self.course.states.as_slice().last() {
             Some(knowledge) => request_in(knowledge, place).is_some(),

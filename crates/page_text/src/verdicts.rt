@@ -8,7 +8,7 @@ use canton_model::{Message, Outcome, Response};
 use ledger_terms::ParticipantId;
 use std::alloc::AllocError;
 
-/// A participant's response to the request at the place `request`, with the response's own place.
+/// A participant's response to the request at the place `request`, with the response's own place. None: the page's entries have none.
 pub(crate) fn response_of<'l>(
     story: &Story<'l>,
     from: ParticipantId,
@@ -24,7 +24,7 @@ pub(crate) fn response_of<'l>(
     None
 }
 
-/// The first place at which the participant knows that the request is decided.
+/// The first place at which the participant knows that the request is decided. None: it doesn't know it on the page's entries.
 fn decided_from(teller: &Teller, request: u64) -> Option<u64> {
     for (place, knowledge) in teller.course.states.as_slice().iter().enumerate() {
         if let Some(state) = request_in(knowledge, request) {
@@ -36,7 +36,8 @@ fn decided_from(teller: &Teller, request: u64) -> Option<u64> {
     None
 }
 
-/// Up to which place it owes: up to its answer, and to the decision.
+/// The last place at which the participant owes verdicts: that of its response, or the one before it knows the request to be decided, whichever is
+/// less; else the page's last.
 fn owes_to(story: &Story<'_>, answered: Option<u64>, decided: Option<u64>) -> u64 {
     let answered = match answered {
         Some(place) => place,
@@ -48,6 +49,7 @@ fn owes_to(story: &Story<'_>, answered: Option<u64>, decided: Option<u64>) -> u6
     }
 }
 
+/// Puts the verdicts that the participant owes to the request, seen at the places of `stay`.
 fn put_owed(
     html: &mut Html,
     story: &Story<'_>,
@@ -66,6 +68,7 @@ fn put_owed(
     Ok(())
 }
 
+/// Puts the response, seen from the place behind it on.
 fn put_answered(
     html: &mut Html,
     story: &Story<'_>,
@@ -84,7 +87,7 @@ fn put_answered(
     html.markup("</span>")
 }
 
-/// Says that it owes nothing any more, having answered nothing.
+/// Says from the place `from` on that the request was decided before the participant answered.
 fn put_late(html: &mut Html, story: &Story<'_>, from: u64) -> Result<(), AllocError> {
     let stay = Stay {
         from,
@@ -94,7 +97,7 @@ fn put_late(html: &mut Html, story: &Story<'_>, from: u64) -> Result<(), AllocEr
     html.markup("not answered before it was decided</span>")
 }
 
-/// Puts what the participant owes to the request at a place and what it answered, each as long as that is so.
+/// Puts what the participant owes to the request and what it answered, each seen at the places at which that is so.
 pub(crate) fn put_duty(
     html: &mut Html,
     story: &Story<'_>,

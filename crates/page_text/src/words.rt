@@ -6,7 +6,7 @@ use ledger_terms::{Instance, ParticipantId, ParticipantIdList};
 use report_text::put_instance;
 use std::alloc::{AllocError, Global};
 
-/// Puts the name of a participant.
+/// Puts the name of a participant; nothing where the topology has no such participant.
 pub(crate) fn put_name(
     html: &mut Html,
     story: &Story<'_>,
@@ -56,6 +56,7 @@ pub(crate) fn put_decision(
     }
 }
 
+/// Puts one verdict: approve, or the reason with the number of the action that shows it.
 fn put_local(html: &mut Html, verdict: &LocalVerdict) -> Result<(), AllocError> {
     match verdict {
         LocalVerdict::Approve => html.markup("approve"),
@@ -79,7 +80,7 @@ pub(crate) fn put_verdicts(html: &mut Html, verdicts: &ViewVerdictList) -> Resul
     Ok(())
 }
 
-/// Puts a contract by its instance.
+/// Puts a contract's instance, as a report has it.
 pub(crate) fn put_contract(
     alloc: Global,
     html: &mut Html,
@@ -103,7 +104,7 @@ pub(crate) fn outcome_words(outcome: Outcome) -> &'static str {
     }
 }
 
-/// The class of the colour in which an outcome stands.
+/// The class that gives an outcome its colour; it is one of the chart's style sheet, which holds for the whole page.
 pub(crate) fn outcome_class(outcome: Outcome) -> &'static str {
     match outcome {
         Outcome::Approved => "good",

@@ -26,20 +26,23 @@ use Rattle.prepare_request.specs.Prepared.{first_unconfirmed, request_for, seed_
 use Rattle.prepare_request.specs.declared.submit_fault.SubmitFault.{SubmitFault}
 use Rattle.prepare_request.specs.declared.submit_fault.SubmitFault.TheVariants.{Paused, NotHosted, Command, Split, Duplicate, LogFull, Memory}
 
--- the root actions that commands ask for, or that drafts stand for
+-- The root actions are those that a submission's commands or prepared tree ask for, over these packages and known contracts, with the transaction's
+-- seed, for these requesters.
 abbrev pub AreWantedBy : Packages → List Known → Hash → PartyNames → What → Actions → Type 0
 AreWantedBy packages known seed act_as (Commands commands) roots = IsWanted packages known seed act_as commands roots
 AreWantedBy packages known seed act_as (Prepared borrowed drafts) roots = IsFilled known seed drafts roots
 
--- the fault with which commands stop, or drafts
+-- A submission's commands or prepared tree stop with this fault, over these packages and known contracts, with the transaction's seed, for these
+-- requesters.
 abbrev pub StopsBy : Packages → List Known → Hash → PartyNames → What → CommandFault → Type 0
 StopsBy packages known seed act_as (Commands commands) fault = StopsWith packages known seed act_as commands fault
 StopsBy packages known seed act_as (Prepared borrowed drafts) fault = FillStops known seed drafts fault
 
+-- the root actions are those that the submission asks for, where participant `me` hands it in and knows these contracts
 abbrev pub AreWanted : Topology → Packages → (me : ℕ) → List Known → Submission → Actions → Type 0
 AreWanted topology packages me known what roots = AreWantedBy packages known (seed_for topology me what) what.act_as what.what roots
 
--- the participant confirms for each requester
+-- participant `me` confirms for each requester of the submission
 abbrev pub ConfirmsRequesters : Topology → (me : ℕ) → Submission → Type 0
 ConfirmsRequesters topology me what = (party : List ℕ) → Contains what.act_as party → confirms_at topology.hosts me party ≡ true
 
@@ -53,15 +56,16 @@ pub record IsRequestOf (topology : Topology) (packages : Packages) (me : ℕ) (k
   pub has_roles : (a : Act) → Contains (acts roots) a → has_roles packages a.action ≡ true
   pub request_is : request ≡ request_for topology packages me what.command (tx_for topology me what now roots)
 
--- one of the wanted actions has no roles, and its path is the fault's, or no action is wanted
+-- The transaction that the submission wants can't be split into views: the fault's path is that of the action without roles, or the empty one where
+-- no action is wanted.
 pub record IsUnsplit (topology : Topology) (packages : Packages) (me : ℕ) (known : List Known) (what : Submission) (now : ℕ) (fault : SplitFault)
     : Type 0 where
   pub roots : Actions
   pub wanted : AreWanted topology packages me known what roots
   pub no_roles : views_for packages (tx_for topology me what now roots) ≡ Err fault
 
--- Why a submission wants no request. A pause, a command id that stands in the log and a full log are no matter of what it wants,
--- and memory never is.
+-- Why a submission wants no request, by the fault that says so. A pause, a command id that stands in the log and a full log are no matter of what it
+-- wants, and want of memory never is.
 abbrev pub HasCause : Topology → Packages → (me : ℕ) → List Known → Submission → (now : ℕ) → SubmitFault → Type 0
 HasCause topology packages me known what now (NotHosted party) = first_unconfirmed topology me what.act_as ≡ Some party
 HasCause topology packages me known what now (Command fault) =
@@ -72,7 +76,7 @@ HasCause topology packages me known what now (Duplicate place) = ⊥
 HasCause topology packages me known what now (LogFull reserved need) = ⊥
 HasCause topology packages me known what now Memory = ⊥
 
--- want of memory is a fault of its own, and stands inside no other
+-- Want of memory is the fault Memory, and doesn't stand inside another fault.
 abbrev pub HoldsNoMemory : SubmitFault → Type 0
 HoldsNoMemory (Command fault) = IsPlain fault
 HoldsNoMemory (Split (NoRoles path)) = Unit {0}

@@ -20,50 +20,51 @@ use Rattle.prepare_request.specs.Within.{parties_in_what}
 use Rattle.prepare_request.specs.declared.submit_fault.SubmitFault.{SubmitFault}
 use Rattle.prepare_request.specs.declared.submit_fault.SubmitFault.TheVariants.{Memory}
 
--- the contracts that a participant offers, by what it has read
+-- the contracts that a participant offers to its submissions, by the items that it has read
 abbrev pub Offered : Type 0
 Offered = ParticipantId → List Item → List Known
 
--- its participant is one of the topology, and it and the packages name only parties of that
+-- whether the submission's participant is one of the topology, and the submission and the packages name only parties of that
 abbrev pub is_within : Topology → Packages → Submission → Bool
 is_within topology packages what =
     nat_lt what.participant (length topology.hosts)
     && (list_all (is_hosted topology) (parties_in_packages packages) && list_all (is_hosted topology) (parties_in_what what.what))
 
--- the wanted transaction, where there is one, can be sealed
+-- whether the transaction that participant `me` wants, where there is one, can be made a request by the rules; false of a fault
 abbrev pub can_seal : Topology → Packages → (me : ℕ) → Result Tx SubmitFault → Bool
 can_seal topology packages me (Ok tx) = can_be_sealed topology packages me (whole_for topology me tx)
 can_seal topology packages me (Err fault) = false
 
--- a request, where it is framed
+-- a request where it is framed, and None where it isn't or there is a fault
 abbrev pub if_framed : Topology → Result Request SubmitFault → Option Request
 if_framed topology (Ok request) = if is_framed topology request then Some request else None
 if_framed topology (Err fault) = None
 
--- what a submission wants is within the topology and can be sealed
+-- whether a submission is within the topology and wants a transaction that can be made a request by the rules
 abbrev pub is_sealable : Topology → Packages → List Known → Submission → (now : ℕ) → Bool
 is_sealable topology packages known what now =
     is_within topology packages what && can_seal topology packages what.participant (wanted_tx topology packages what.participant known what now)
 
--- The request that a submission wants, and none where it isn't within the topology or hands in what can't be sealed and framed:
--- nothing that a client's types can hold is of that kind.
+-- The request that a submission wants over its participant's inbox. None where it wants none, where it isn't within the topology, or where it can't
+-- be sealed and framed, which is never so of what a client's types can hold.
 abbrev pub prepare_over : Topology → Packages → Offered → Submission → List Item → (now : ℕ) → Option Request
 prepare_over topology packages offered what items now =
     if is_sealable topology packages (offered what.participant items) what now
     then if_framed topology (prepared topology packages what.participant (offered what.participant items) what now)
     else None
 
--- the fault, where the submission wants no request; where it wants one, of which nobody asks this, Memory stands for none
+-- the fault for which a submission wants no request; Memory where it wants one, of which nobody asks this
 abbrev pub fault_in : Result Request SubmitFault → SubmitFault
 fault_in (Ok request) = Memory
 fault_in (Err fault) = fault
 
--- why a submission wants no request over these items
+-- the fault for which a submission wants no request over these items of its participant's inbox
 abbrev pub why_over : Topology → Packages → Offered → Submission → List Item → (now : ℕ) → SubmitFault
 why_over topology packages offered what items now =
     fault_in (prepared topology packages what.participant (offered what.participant items) what now)
 
--- the machine of a synchroniser with this topology, these packages and so much room in its log
+-- the machine of a synchroniser, that is what its world rests on, with this topology, these packages, `capacity` places for requests in its log, and
+-- what participants offer
 abbrev pub machine_over : Topology → Packages → (capacity : ℕ) → Offered → Machine
 machine_over topology packages capacity offered =
     record {

@@ -13,8 +13,8 @@ use Rattle.interpret.specs.Language.{the_language}
 use Rattle.sealed_form.specs.SealedForm.{IsSealedForm}
 use Rattle.framed_form.specs.FramedReading.{framed_reading}
 
--- The request is the sealed form of a transaction, as which its envelopes are read back. Each recipient's envelope is complete. To
--- each participant they open the views of which it hosts an informee, with all below them, and nothing else.
+-- A request opens what the rules ask for: it is the sealed form of a transaction, as which its envelopes are read back, each recipient's envelope is
+-- complete, and to each participant they open the views of which it hosts an informee, with all below them, and nothing else.
 pub record OpensByRules (topology : Topology) (packages : Packages) (request : Request) : Type 0 where
   pub sealed : IsSealedForm topology packages request
   pub whole : (framed_reading topology packages).whole request ≡ Some (sealed.whole).transaction

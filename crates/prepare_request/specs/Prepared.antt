@@ -31,94 +31,107 @@ use Rattle.prepare_request.specs.declared.submit_fault.SubmitFault.TheVariants.{
 
 -- ---- the transaction
 
+-- the name of a host, and the empty text where there is none
 abbrev pub name_of : Option Host → List ℕ
 name_of None = []
 name_of (Some host) = host.name
 
--- the name of the participant at an index
+-- the name of the participant at an index, and no bytes where there is none
 abbrev pub name_at : Topology → ℕ → List ℕ
 name_at topology p = name_of (slice_get topology.hosts p)
 
--- the seed that a prepared tree borrows, else its own
+-- the seed of the command that a prepared tree names, where it names one, else this seed, which is its own
 abbrev pub borrowed_or : Option SeedOf → Hash → Hash
 borrowed_or None own = own
 borrowed_or (Some other) own = root_seed other.participant other.command
 
--- the seed of the transaction, where a participant's own seed for the command is this one
+-- the transaction's seed: the one that a prepared tree borrows, else the seed of the second argument, which is that of the participant's command
 abbrev pub seed_of_what : What → Hash → Hash
 seed_of_what (Commands commands) own = own
 seed_of_what (Prepared borrowed roots) own = borrowed_or borrowed own
 
--- The seed of the transaction: that of the participant's command, or the one that a prepared tree borrows.
+-- The seed of the transaction that a submission of participant `me` asks for: that of the participant's command, or the one that a prepared tree
+-- borrows.
 abbrev pub seed_for : Topology → (me : ℕ) → Submission → Hash
 seed_for topology me what = seed_of_what what.what (root_seed (name_at topology me) what.command)
 
--- what commands ask for, or a prepared tree with its seeds and ids
+-- The root actions that commands ask for, or that a prepared tree stands for with its seeds and ids, or the fault with which they stop. The arguments
+-- are the packages, the known contracts, the transaction's seed and the requesters.
 abbrev pub actions_of : Packages → List Known → Hash → PartyNames → What → Result Actions CommandFault
 actions_of packages known seed act_as (Commands commands) = interp packages known seed act_as commands
 actions_of packages known seed act_as (Prepared borrowed roots) = filling known seed roots
 
+-- the root actions that a submission of participant `me` asks for over these known contracts, or the fault with which it stops
 abbrev pub actions_for : Topology → Packages → (me : ℕ) → List Known → Submission → Result Actions CommandFault
 actions_for topology packages me known what = actions_of packages known (seed_for topology me what) what.act_as what.what
 
--- the submission's own ledger time, else that of its round
+-- the submission's own ledger time, and where it has none the time `now` of its round, both in microseconds
 abbrev pub time_or : Option ℕ → (now : ℕ) → ℕ
 time_or None now = now
 time_or (Some time) now = time
 
--- the transaction of these root actions
+-- the transaction of a submission of participant `me` with these root actions; `now` is its ledger time where it states none
 abbrev pub tx_for : Topology → (me : ℕ) → Submission → (now : ℕ) → Actions → Tx
 tx_for topology me what now roots =
     record { act_as = what.act_as; ledger_time = time_or what.ledger_time now; seed = seed_for topology me what; roots = roots }
 
 -- ---- the request
 
+-- a transaction with the name of participant `me`, who sends it, and the salts of its seed
 abbrev pub whole_for : Topology → (me : ℕ) → Tx → Whole
 whole_for topology me tx = whole_with_seed (name_at topology me) tx
 
+-- the sealed form of a transaction that has its sender's name and its salts beside it, as a request with this command id
 abbrev pub request_with : Topology → Packages → (sender : ℕ) (command : List ℕ) → Whole → Request
 request_with topology packages sender command whole =
     request_of topology packages sender whole.sender command whole.salts whole.transaction
 
--- the sealed form of a transaction
+-- the request that participant `me` makes of a transaction by the rules, with this command id
 abbrev pub request_for : Topology → Packages → (me : ℕ) (command : List ℕ) → Tx → Request
 request_for topology packages me command tx = request_with topology packages me command (whole_for topology me tx)
 
 -- ---- its faults
 
--- the first requester for whom the participant doesn't confirm
+-- the first requester for whom participant `me` doesn't confirm, and None where it confirms for all
 abbrev pub first_unconfirmed : Topology → (me : ℕ) → PartyNames → Option (List ℕ)
 first_unconfirmed topology me act_as = find (λ party. not (confirms_at topology.hosts me party)) act_as
 
+-- the answer, where there is no requester for whom the participant doesn't confirm; else the fault NotHosted, with that requester
 abbrev pub unless_unconfirmed : Option (List ℕ) → Result Request SubmitFault → Result Request SubmitFault
 unless_unconfirmed None answer = answer
 unless_unconfirmed (Some party) answer = Err (NotHosted party)
 
+-- the transaction of the root actions that the submission asks for, or the fault of its commands or its prepared tree
 abbrev pub tx_where_wanted : Topology → (me : ℕ) → Submission → (now : ℕ) → Result Actions CommandFault → Result Tx SubmitFault
 tx_where_wanted topology me what now (Ok roots) = Ok (tx_for topology me what now roots)
 tx_where_wanted topology me what now (Err fault) = Err (Command fault)
 
--- the transaction that the submission wants
+-- the transaction that a submission of participant `me` wants over these known contracts, or the fault with which it stops
 abbrev pub wanted_tx : Topology → Packages → (me : ℕ) → List Known → Submission → (now : ℕ) → Result Tx SubmitFault
 wanted_tx topology packages me known what now = tx_where_wanted topology me what now (actions_for topology packages me known what)
 
--- A transaction has at least one view. Of one without actions no action has roles, and the path is that of none.
+-- The views of a transaction with these root actions, where there are any. A transaction has at least one view, so one without actions gets the fault
+-- NoRoles, with the empty path.
 abbrev pub if_some : Actions → Result Views SplitFault → Result Views SplitFault
 if_some NoRoots views = Err (NoRoles [])
 if_some (Root act below others) views = views
 
+-- the views of a transaction, or the fault of an action without roles, or of no action
 abbrev pub views_for : Packages → Tx → Result Views SplitFault
 views_for packages tx = if_some tx.roots (views_of_tx packages tx)
 
+-- the request, where its transaction has views; else the fault of the splitting
 abbrev pub where_split : Result Views SplitFault → Request → Result Request SubmitFault
 where_split (Ok views) request = Ok request
 where_split (Err fault) request = Err (Split fault)
 
+-- the request that participant `me` makes of a transaction with this command id, or the fault where it can't be split into views
 abbrev pub sealed_if_split : Topology → Packages → (me : ℕ) (command : List ℕ) → Tx → Result Request SubmitFault
 sealed_if_split topology packages me command tx = where_split (views_for packages tx) (request_for topology packages me command tx)
 
--- The requesters are tried first, then the commands or the prepared tree, then the roles of what they give, which is some action.
--- The contracts that are known are those that the participant offers.
+-- The request that a submission of participant `me` wants over these known contracts, or the first fault: the requesters are tried first, then the
+-- commands or the prepared tree, then the roles of what they give, which is some action. The contracts that are known are those that the participant
+-- offers.
 abbrev pub prepared : Topology → Packages → (me : ℕ) → List Known → Submission → (now : ℕ) → Result Request SubmitFault
 prepared topology packages me known what now =
     unless_unconfirmed (first_unconfirmed topology me what.act_as)
@@ -126,11 +139,12 @@ prepared topology packages me known what now =
 
 -- ---- faults of the calls below
 
--- want of memory is always Memory itself
+-- a fault of commands or of a prepared tree as that of the submission, where want of memory is always Memory itself
 abbrev pub of_command : CommandFault → SubmitFault
 of_command CommandMemory = Memory
 of_command fault = Command fault
 
+-- a fault of the splitting into views as that of the submission, where want of memory is always Memory itself
 abbrev pub of_split : SplitFault → SubmitFault
 of_split (NoRoles path) = Split (NoRoles path)
 of_split SplitMemory = Memory

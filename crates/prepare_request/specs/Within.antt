@@ -12,13 +12,13 @@ use Rattle.lang_eval.specs.Parts.{PartyNames}
 use Rattle.interpret.specs.NamedParties.{parties_in_contracts}
 use Rattle.sealed_form.specs.Within.{is_hosted}
 
--- the parties that a submission names
+-- the parties that a submission's commands or its prepared tree name
 abbrev pub parties_in_what : What → PartyNames
 parties_in_what (Commands commands) = parties_in_commands commands
 parties_in_what (Prepared borrowed roots) = parties_in_drafts roots
 
--- The participant is one of the topology, and packages, known contracts and the submission name only parties of it. Whether
--- it hosts the requesters is not asked.
+-- The participant is one of the topology, and packages, known contracts and the submission name only parties of it. Whether the participant confirms
+-- for the requesters is not asked.
 pub record IsWithin (topology : Topology) (packages : Packages) (me : ℕ) (known : List Known) (what : Submission) : Type 0 where
   pub is_host : me < length topology.hosts
   pub named_by_packages : AreKnown (is_hosted topology) (parties_in_packages packages)

@@ -30,7 +30,7 @@ impl Model for HostedIds {
 }
 
 impl HostedIds {
-    /// No ids, and room for none.
+    /// No ids, and room for none without memory.
     pub fn new(alloc: Global) -> HostedIds
         ensures ids { result.ids ≡ [] }
         ensures spare { result.spare ≡ 0 }
@@ -41,14 +41,14 @@ impl HostedIds {
         }
     }
 
-    /// Whether the id is one of them.
+    /// Whether the id is one of them, so that its contract has a stakeholder hosted by the participant.
     pub fn contains(&self, id: &Hash) -> bool
         ensures { result ≡ is_among self.now.ids id.now }
     {
         self.ids.contains_key(id)
     }
 
-    /// Makes room for so many more ids.
+    /// Makes room for `count` more ids, which `insert` then puts in without memory.
     pub fn reserve(&mut self, count: usize) -> Result<(), AllocError>
         ensures ids { self.new.ids ≡ self.old.ids }
         ensures spare { self.old.spare ≤ self.new.spare }
@@ -61,7 +61,7 @@ impl HostedIds {
         Ok(())
     }
 
-    /// Puts an id among them. Takes no memory.
+    /// Puts an id among them, which may be there. Takes no memory.
     pub fn insert(&mut self, id: Hash)
         requires { 0 < self.old.spare }
         ensures among { (c : List ℕ) → is_among self.new.ids c ≡ (bytes_eq id c || is_among self.old.ids c) }

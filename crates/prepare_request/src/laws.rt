@@ -87,7 +87,8 @@ pub fn wanted_requests_are_sealed()
         → OpensByRules topology packages request }
 {}
 
-/// Requests that are prepared are what a world asks of its machine, whatever participants offer.
+/// The machine over a topology and packages, whose requests are the prepared ones, keeps what every world asks of its machine, whatever participants
+/// offer.
 pub fn prepared_requests_make_a_machine()
     ensures { (topology : Topology) (packages : Packages) (capacity : ℕ) (offered : Offered) → IsMachine (machine_over topology packages capacity offered) }
 {}

@@ -144,9 +144,9 @@ fn views_for(alloc: Global, checked: &Checked, tx: &Tx) -> Result<Views, SplitFa
     split(alloc, checked, tx)
 }
 
-/// The transaction that a submission of the participant `me` asks for, as a request in the sealed form: its commands are
-/// interpreted, or its prepared tree is filled, over the contracts that are known. `now` is the ledger time of a submission
-/// that has none. A choice that `natives` has is asked of them in place of the language. Memory is that of the submission.
+/// The transaction that a submission of the participant `me` asks for, as a request in the sealed form: its commands are interpreted, or its prepared
+/// tree is filled, over the contracts that are known. An Err is the first fault. `now` is the ledger time of a submission that has none. A choice
+/// that `natives` has is asked of them in place of the contract language. Memory is taken from the submission's allocator.
 pub fn prepare<K: KnownContracts>(
     setup: &Setup,
     natives: &NativeList,

@@ -11,9 +11,9 @@ pub enum SubmitFault {
     Paused,
     /// The participant doesn't confirm for a party that would act.
     NotHosted { party: Name },
-    /// The commands give no transaction.
+    /// The commands, or the prepared tree, give no transaction.
     Command { fault: CommandFault },
-    /// The transaction has no views. Where it has no action either, the path is the empty one.
+    /// The transaction can't be split into views: an action has no roles, at the fault's path, or there is no action, and the path is the empty one.
     Split { fault: SplitFault },
     /// The participant's command id stands in the log already, at `place`.
     Duplicate { place: u64 },

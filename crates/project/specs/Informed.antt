@@ -8,10 +8,11 @@ use Rattle.lang_eval.specs.Found.{Packages}
 use Rattle.lang_eval.specs.Parts.{PartyNames}
 use Rattle.lang_eval.specs.Language.{roles_in}
 
--- an informee of the action is one of the parties
+-- whether one of the parties is an informee of the action, by the packages' roles
 abbrev pub is_informed : Packages → PartyNames → Act → Bool
 is_informed packages parties act = meets_set (roles_in packages act.action).informees parties
 
--- an action of which one of the parties is informed stays whole, and any other gives way to the projection of what is below it
+-- What the parties are told of a forest of actions: an action of which one of the parties is informed stays whole, with all below it, and any other
+-- gives way to the projection of what is below it.
 abbrev pub projection : Packages → PartyNames → Actions → Actions
 projection packages parties roots = forest.project (is_informed packages parties) roots

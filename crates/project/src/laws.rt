@@ -12,7 +12,7 @@ ghost use Rattle.lang_eval.specs.Parts.{PartyNames};
 ghost use Rattle.lang_eval.specs.Language.{language_of};
 ghost use Rattle.project.specs.Informed.{projection};
 
-/// The projection to parties is what a sender that keeps the rules opens to who hosts exactly these.
+/// The projection to some parties is what a sender that keeps the rules opens to a participant that hosts exactly these parties.
 pub fn projection_is_opened()
     ensures { (packages : Packages) (is_creatable : Instance → Bool) (is_exercisable : ChoiceCall → PartyNames → Bool → Value → Bool)
         (hosts : Name → Bool) (parties : PartyNames) (roots : Actions)
@@ -20,7 +20,7 @@ pub fn projection_is_opened()
         → opened_of (language_of packages is_creatable is_exercisable) hosts roots ≡ projection packages parties roots }
 {}
 
-/// What is kept of what is kept is all of it.
+/// The projection to some parties, projected to the same parties again, stays as it is.
 pub fn projecting_again_changes_nothing()
     ensures { (packages : Packages) (parties : PartyNames) (roots : Actions)
         → projection packages parties (projection packages parties roots) ≡ projection packages parties roots }

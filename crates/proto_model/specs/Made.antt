@@ -22,25 +22,29 @@ use Rattle.framed_form.specs.Framed.{AreBytes}
 use Rattle.sealed_form.specs.SealedForm.{confirming_by, request_of}
 use Rattle.sealed_form.specs.Submission.{whole_with_seed}
 
--- the request of a transaction, with the salts of its seed
+-- the request that the sender makes of a transaction: its index, its name, the command's name and the transaction, whose seed gives the salts of the
+-- leaves
 abbrev pub request_of_tx : Topology → Packages → (sender : ℕ) (name command : List ℕ) → Tx → Request
 request_of_tx topology packages sender name command tx =
     request_of topology packages sender name command (salts_of sha256 tx.seed) (whole_with_seed name tx).transaction
 
 -- ---- in the order in which it is made
 
+-- whether a participant confirms one of these views: `confirms` tells for which parties it confirms
 abbrev pub confirms_any_view : (confirms : List ℕ → Bool) → Forest SplitView → Bool
 confirms_any_view confirms views = list_any (λ (view : SplitView). list_any confirms view.confirmers) (preorder views)
 
--- a participant's envelope, cut from the tree with every hash
+-- The envelope to participant p, cut from the tree in which every hash is kept. The name is the sender's. It is the same as `envelope_by`, and hashes
+-- nothing again.
 abbrev pub envelope_cut : KeptTree → (name : List ℕ) → List Host → ℕ → Envelope
 envelope_cut kept name hosts p = record { to = p; bytes = spell_tree (cut_tree kept name hosts (Participant p)) }
 
--- a participant's envelope, with the tree as it is blinded for it
+-- the envelope to participant p: the tree of the views as it is blinded for p; the name is the sender's
 abbrev pub envelope_by : List Host → (name : List ℕ) → Views → ℕ → Envelope
 envelope_by hosts name views p = record { to = p; bytes = spell_tree (blind_for sha256 views name hosts (Participant p)) }
 
--- the request of these views, of a sender with this name, which concerns these participants at most
+-- The request of these views, in the order in which it is made. `participants` are all who may be asked or get an envelope, and the name is the
+-- sender's.
 abbrev pub request_by : Topology → (participants : List ℕ) (sender : ℕ) (name command : List ℕ) → Views → Request
 request_by topology participants sender name command views =
     record {
@@ -53,10 +57,11 @@ request_by topology participants sender name command views =
 
 -- ---- what is sent
 
+-- the numbers of an envelope are bytes, each below 256
 abbrev pub HasBytes : Envelope → Type 0
 HasBytes envelope = AreBytes envelope.bytes
 
--- all that is sent of it are bytes
+-- All that is sent of a request, to the mediator and to the recipients, are bytes, each below 256.
 pub record SendsBytes (request : Request) : Type 0 where
   pub mediator : AreBytes request.mediator
   pub envelopes : All HasBytes request.envelopes

@@ -8,8 +8,7 @@ use framed_form::tree_in;
 use std::alloc::{AllocError, Global};
 use wire_form::WireFault;
 
-/// The sender's name, and the informees and confirmers of every view, as the mediator's bytes tell them; nothing where these
-/// can't be read.
+/// The sender's name, and the informees and confirmers of every view, as the mediator's bytes tell them. None where these can't be read.
 pub fn requested_views(alloc: Global, request: &Request) -> Result<Option<RolesTree>, AllocError>
     ensures { IfOk result (λ views. views ≡ requested_views request.now) }
 {

@@ -94,7 +94,7 @@ fn are_actions_known(topology: &Topology, found: &[ActRef<'_>]) -> bool
         .all(|act| is_action_known(topology, act.action()))
 }
 
-/// Whether each party that an opened action names, in its fields, arguments, actors or result, is one of the topology.
+/// Whether each party that an action of an opened tree names, in its fields, arguments, actors or result, is one of the topology.
 pub fn names_known(
     alloc: Global,
     topology: &Topology,

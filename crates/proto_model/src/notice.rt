@@ -29,7 +29,7 @@ pub struct Notice {
     pub offered: OpenedFor,
 }
 
-/// What an envelope offers, which is Missing, too, where it opens an action that names a party outside the topology.
+/// What an envelope offers, which counts as Missing too where it opens an action that names a party outside the topology.
 pub fn if_known(
     alloc: Global,
     topology: &Topology,
@@ -100,7 +100,7 @@ fn is_recipient(me: ParticipantId, request: &Request, seen: &PathList) -> bool
     me == request.sender || is_some_path(seen)
 }
 
-/// What a participant reads of a request, by what the mediator's bytes tell, and none exactly where it isn't a recipient. The
+/// What participant `me` reads of a request, where `outline` is what the mediator's bytes tell, and None exactly where it isn't a recipient. Its
 /// envelope is read once, whatever it is.
 pub fn read_notice(
     alloc: Global,

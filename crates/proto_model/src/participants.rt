@@ -25,7 +25,7 @@ pub(crate) fn all_participants(
     Ok(all)
 }
 
-/// Those of the participants that confirm for a confirmer of some view.
+/// Those of the participants that confirm for a confirmer of some view, in order: who is asked to confirm.
 pub(crate) fn confirming(
     alloc: Global,
     topology: &Topology,
@@ -55,7 +55,7 @@ fn confirms_any_view(topology: &Topology, at: ParticipantId, views: &ViewList) -
     false
 }
 
-/// Those of the participants that get an envelope: the sender, and who sees a view.
+/// Those of the participants that get an envelope, in order: the sender, and who sees a view.
 pub(crate) fn recipients(
     alloc: Global,
     topology: &Topology,

@@ -24,9 +24,9 @@ use ledger_terms::{Name, ParticipantId, ParticipantIdList, Topology};
 use std::alloc::{AllocError, Global};
 use view_split::Views;
 
-/// The request of a transaction that is split (Canton protocol: confirmation request). Its sender and every participant that
-/// sees a view get an envelope, in the order of the topology, and who confirms for a confirmer of a view is asked to confirm.
-/// All trees are spelled from one, whose leaves and views are hashed once each.
+/// The request that the sender makes of a transaction which is split into these views (Canton protocol: confirmation request). The sender and every
+/// participant that sees a view get an envelope, in the order of the topology, and who confirms for a confirmer of a view is asked to confirm. All
+/// trees are spelled from one, whose leaves and views are hashed once each.
 pub fn seal(
     alloc: Global,
     topology: &Topology,
@@ -60,7 +60,7 @@ pub fn seal(
     Ok(request)
 }
 
-// The request of a sender of this name.
+// The request of these views, where the sender has this name.
 fn seal_as(
     alloc: Global,
     topology: &Topology,

@@ -13,7 +13,7 @@ use blind_tree::{ViewRoles, ViewRolesList};
 use ledger_terms::{Exact, ParticipantId, PathList, Topology};
 use std::alloc::{AllocError, Global};
 
-// How deep a view stands, where the participant hosts an informee of it.
+// How many steps a view's path has, where the participant hosts an informee of it; else None.
 fn top_here(topology: &Topology, me: ParticipantId, view: &ViewRoles) -> Option<usize>
     ensures { result ≡ top_here (hosts_at topology.now.hosts me) view.now }
 {
@@ -24,7 +24,8 @@ fn top_here(topology: &Topology, me: ParticipantId, view: &ViewRoles) -> Option<
     }
 }
 
-// How deep the topmost view stands that the participant sees, of those at or above one.
+// How many steps the path has of the topmost view that the participant sees, of this one and those above it; None where it sees none of them. `top`
+// is this of the view before it.
 fn top_seen(
     topology: &Topology,
     me: ParticipantId,
@@ -39,7 +40,8 @@ fn top_seen(
     }
 }
 
-/// The paths of the views that a participant sees, in their order: those with an informee that it hosts, and all below them.
+/// The paths of those of the views that participant `me` sees, in their order: those with an informee that it hosts, and all below them. The views
+/// stand in order of path, as an outline has them.
 pub fn seen_among(
     alloc: Global,
     topology: &Topology,
@@ -66,7 +68,7 @@ fn push_if(wanted: bool, view: &ViewRoles, paths: &mut PathList) -> Result<(), A
     Ok(())
 }
 
-/// The paths of the views that a participant confirms, in their order.
+/// The paths of those of the views that participant `me` confirms, in their order: those with a confirmer for whom it confirms.
 pub fn confirmed_among(
     alloc: Global,
     topology: &Topology,
@@ -86,7 +88,7 @@ pub fn confirmed_among(
     Ok(confirmed)
 }
 
-/// Whether one of the views with these paths is a root view.
+/// Whether one of these paths is that of a root view, which has one step.
 pub fn has_root(paths: &PathList) -> bool
     ensures { result ≡ list_any is_root_path paths.now }
 {

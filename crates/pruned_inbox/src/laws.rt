@@ -20,8 +20,8 @@ ghost use Rattle.pruned_inbox.specs.Orderly.{IsOrderly};
 ghost use Rattle.pruned_inbox.specs.Received.{is_received_at};
 ghost use Rattle.pruned_inbox.specs.Start.{GoesOn, IsStart, Start, active_kept, no_start, status_kept, verdicts_kept};
 
-/// In an orderly inbox, whoever keeps it from a base on, beside what it leaves there, answers whatever is asked of places from the
-/// base on as whoever keeps all of it.
+/// A participant p that keeps an orderly inbox from a base b on, beside what the inbox leaves there (`start`), answers whatever is asked of places
+/// from b on as one that keeps all of it.
 pub fn pruned_inboxes_answer_alike()
     ensures { (reading : Reading) (params : Params) (p : ParticipantId) (items : List Item) (b : ℕ) (start : Start)
         → IsOrderly params items
@@ -30,8 +30,8 @@ pub fn pruned_inboxes_answer_alike()
         → AnswersAlike reading params p items (forget b items) b start }
 {}
 
-/// What is there from the base on, behind as many silent items of which the last is at the time before the base, answers so too: nothing
-/// else of the items below the base is wanted.
+/// The items from the base on, behind as many silent items of which the last is at the time before the base, answer alike too: nothing else of the
+/// items below the base is wanted.
 pub fn silent_fronts_answer_alike()
     ensures { (reading : Reading) (params : Params) (p : ParticipantId) (items : List Item) (b : ℕ) (start : Start)
         → IsOrderly params items
@@ -40,7 +40,7 @@ pub fn silent_fronts_answer_alike()
         → AnswersAlike reading params p items (silent_front b (last_time (take b items)) ++ drop b items) b start }
 {}
 
-/// So does, over every genuine log, a participant that was pruned after n entries and then read on.
+/// Over every genuine log, a participant p that was pruned to a base b when it had read n entries, and then read on to `later`, answers alike.
 pub fn restarted_participants_answer_alike()
     ensures { (reading : Reading) (params : Params) (p : ParticipantId) (log : List Entry) (b n later : ℕ) (start : Start)
         → Genuine reading params log
@@ -52,7 +52,7 @@ pub fn restarted_participants_answer_alike()
         (silent_front b (last_time (take b (inbox reading p (take n log)))) ++ drop b (inbox reading p (take later log))) b start }
 {}
 
-/// Who has forgotten nothing begins at the first place with no contracts, and answers what the protocol says of its inbox.
+/// A new participant has forgotten nothing: it begins at the base 0 with no contracts, and answers what the protocol says of its inbox.
 pub fn new_participants_have_forgotten_nothing()
     ensures base { (params : Params) (items : List Item) → IsBase params items 0 }
     ensures start { (reading : Reading) (items : List Item) → IsStart reading items 0 no_start }
@@ -64,7 +64,7 @@ pub fn new_participants_have_forgotten_nothing()
         → verdicts_kept reading params p no_start items k ≡ verdicts_owed reading params p items k }
 {}
 
-/// Of the contracts that a base leaves to start with, those with a hosted stakeholder are the active ones there.
+/// Of the contracts that an inbox leaves at a base b, those with a hosted stakeholder are the active ones there.
 pub fn starts_have_the_active_contracts()
     ensures { (reading : Reading) (p : ParticipantId) (items : List Item) (b : ℕ) (start : Start)
         → IsStart reading items b start
@@ -78,13 +78,13 @@ pub fn inboxes_are_orderly()
         → IsOrderly params (inbox reading p log) }
 {}
 
-/// The base is the greatest place below which every request is decided at it.
+/// The base of an inbox is a base, and the greatest of all.
 pub fn base_is_greatest()
     ensures base { (params : Params) (items : List Item) → IsBase params items (Base.base params items) }
     ensures greatest { (params : Params) (items : List Item) (n : ℕ) → IsBase params items n → n ≤ Base.base params items }
 {}
 
-/// What is read later comes behind what is kept, and a verdict that comes later is on a request that is kept.
+/// What is read later comes behind what is kept (`behind`), and a verdict that comes later is on a request that is kept.
 pub fn pruned_inboxes_are_read_on()
     ensures behind { (b time : ℕ) (items more : List Item)
         → b ≤ length items
@@ -98,8 +98,8 @@ pub fn pruned_inboxes_are_read_on()
         → b ≤ v.request }
 {}
 
-/// What a start and the items that are kept from it on leave at a later place is what the whole inbox leaves there, and the base of what is
-/// kept is that of the whole, so that an inbox may be pruned again.
+/// What a start and the items that are kept from it on leave at a later place n (`next`) is what the whole inbox leaves there, and the base of what
+/// is kept is that of the whole, so that an inbox may be pruned again.
 pub fn pruned_inboxes_are_pruned_again()
     ensures start { (reading : Reading) (params : Params) (items : List Item) (b n : ℕ) (start next : Start)
         → IsOrderly params items
@@ -114,8 +114,8 @@ pub fn pruned_inboxes_are_pruned_again()
         → Base.base params (silent_front b (last_time (take b items)) ++ drop b items) ≡ Base.base params items }
 {}
 
-/// When the forgotten items came makes no difference, as long as that is before any request that is kept can be decided, and the time
-/// before the base is the same.
+/// The times of the forgotten items may be any others (`times`) that are before any request that is kept can be decided, as long as the time before
+/// the base is the same: the answers are alike all the same.
 pub fn times_below_the_base_make_no_difference()
     ensures { (reading : Reading) (params : Params) (p : ParticipantId) (whole kept : List Item) (b : ℕ) (start : Start) (times : List ℕ)
         → length times ≡ b
@@ -125,7 +125,7 @@ pub fn times_below_the_base_make_no_difference()
         → AnswersAlike reading params p whole (retime times kept) b start }
 {}
 
-/// The place that is claimed next and the response that is sent next are the same, where claims and responses agree from the base on.
+/// Where claims and responses agree from the base b on, the place that is claimed next and the response that is sent next are the same.
 pub fn claims_and_responses_are_alike()
     ensures claim { (reading : Reading) (params : Params) (p : ParticipantId) (b : ℕ) (start : Start) (whole kept : NodeState)
         → AnswersAlike reading params p whole.items kept.items b start

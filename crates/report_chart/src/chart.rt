@@ -6,7 +6,8 @@ use std::alloc::Global;
 use std::str;
 use svg_text::drawable;
 
-/// The chart of a report, as SVG. A character that XML hasn't is drawn as U+FFFD.
+/// The chart of the report that the bytes spell, as SVG. A character that XML hasn't is drawn as U+FFFD. Err: the first line that isn't as the
+/// report's format has it, or want of memory.
 pub fn chart_of(alloc: Global, bytes: &[u8]) -> Result<Text, ReportFault> {
     let text = text_of(bytes)?;
     let text = drawable(alloc, text)?;
@@ -14,6 +15,7 @@ pub fn chart_of(alloc: Global, bytes: &[u8]) -> Result<Text, ReportFault> {
     Ok(draw(alloc, &report)?)
 }
 
+/// The bytes as a text. Err: the line in which the first byte that isn't UTF-8 stands.
 fn text_of(bytes: &[u8]) -> Result<&str, ReportFault> {
     match str::from_utf8(bytes) {
         Ok(text) => Ok(text),

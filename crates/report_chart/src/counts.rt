@@ -2,7 +2,7 @@
 use report_read::{Answer, Ending, Report, SubmitResult};
 use std::alloc::{AllocError, Global};
 
-/// How many entries, requests by their endings, and refused submissions a report has.
+/// How many entries a report has, how many requests, by how they ended, and how many submissions were refused.
 #[derive(Clone, Copy)]
 pub struct Counts {
     pub entries: usize,
@@ -16,7 +16,7 @@ pub struct Counts {
 }
 
 impl Counts {
-    /// What the report has, counted.
+    /// Counts what a report has.
     pub fn of(report: &Report<'_>) -> Counts {
         Counts {
             entries: report.entries.len(),
@@ -36,6 +36,7 @@ impl Counts {
     }
 }
 
+/// How many requests ended so.
 fn ending_count(report: &Report<'_>, ending: Ending) -> usize {
     let mut count = 0usize;
     for outcome in report.outcomes.as_slice() {
@@ -47,6 +48,7 @@ fn ending_count(report: &Report<'_>, ending: Ending) -> usize {
     count
 }
 
+/// Whether a submission was refused, so that no request of it was sent.
 pub fn is_refused(answered: &SubmitResult<'_>) -> bool {
     match answered.answer {
         Answer::Refused(_) => true,
@@ -54,7 +56,7 @@ pub fn is_refused(answered: &SubmitResult<'_>) -> bool {
     }
 }
 
-/// The title of the picture.
+/// The title of the picture, with the numbers of entries and of requests.
 pub fn title_of(alloc: Global, counts: &Counts) -> Result<String, AllocError> {
     let Counts {
         entries,
@@ -64,7 +66,7 @@ pub fn title_of(alloc: Global, counts: &Counts) -> Result<String, AllocError> {
     format!(in alloc; "The log of a run: entries {entries}, requests {requests}")
 }
 
-/// How many requests ended how, and how many submissions were refused, in words.
+/// The line below the title, which is the picture's description too: how many requests ended how, and how many submissions were refused.
 pub fn endings_of(alloc: Global, counts: &Counts) -> Result<String, AllocError> {
     let Counts {
         approved,

@@ -33,7 +33,7 @@ const NEXT: u32 = 8;
 
 const BELOW: u32 = 13;
 
-/// Draws a row for each entry, up to the most that is drawn.
+/// Draws a row for each of the first 500 entries. Where the report has more, a line below says so.
 pub fn draw_entries(sheet: &mut Sheet, report: &Report<'_>) -> Result<(), AllocError> {
     for entry in report.entries.as_slice().iter().take(MOST_ROWS) {
         draw_entry(sheet, report, entry)?;
@@ -88,7 +88,7 @@ fn draw_entry(sheet: &mut Sheet, report: &Report<'_>, entry: &Entry<'_>) -> Resu
     sheet.svg.end_group()
 }
 
-/// Draws what stands behind a request, so that its row is found.
+/// Draws the tinted panel behind the row of a request, so that the row is found.
 fn draw_panel(sheet: &mut Sheet) -> Result<(), AllocError> {
     let frame = Frame {
         corner: at(8, sheet.y),
@@ -105,6 +105,7 @@ fn draw_panel(sheet: &mut Sheet) -> Result<(), AllocError> {
     sheet.svg.rectangle(frame, paint)
 }
 
+/// Writes an entry's place, and its time below.
 fn draw_place(sheet: &mut Sheet, entry: &Entry<'_>) -> Result<(), AllocError> {
     let Entry { place, time, .. } = entry;
     let place = format!(in sheet.alloc; "{place}")?;
@@ -129,7 +130,7 @@ fn dashed(tone: Tone) -> Stroke {
     }
 }
 
-/// Draws a dot: where something begins it is full.
+/// Draws the full dot at which an arrow begins.
 fn draw_dot(sheet: &mut Sheet, x: u32, y: u32, tone: Tone) -> Result<(), AllocError> {
     let paint = Paint {
         tone,
@@ -181,7 +182,7 @@ fn draw_withheld(sheet: &mut Sheet, lane: Lane, y: u32) -> Result<(), AllocError
     sheet.svg.text(&word, "withheld")
 }
 
-/// Draws an arrow to each of some participants.
+/// Draws an arrow from the point `from` at the height `y` to each of the recipients' lanes.
 fn draw_arrows(
     sheet: &mut Sheet,
     report: &Report<'_>,
@@ -200,6 +201,7 @@ fn draw_arrows(
     Ok(())
 }
 
+/// Draws the arrow of a response, from its participant to the mediator.
 fn draw_response(sheet: &mut Sheet, from: Lane, all_approve: bool) -> Result<(), AllocError> {
     let y = sheet.y.saturating_add(MIDDLE);
     let tone = if all_approve { Tone::Good } else { Tone::Bad };
@@ -209,6 +211,7 @@ fn draw_response(sheet: &mut Sheet, from: Lane, all_approve: bool) -> Result<(),
     sheet.svg.arrow(at(from, y), at(to, y), solid(tone))
 }
 
+/// Draws the arrows of a verdict, from the mediator to those who received the request.
 fn draw_verdict(
     sheet: &mut Sheet,
     report: &Report<'_>,
@@ -222,7 +225,7 @@ fn draw_verdict(
     draw_arrows(sheet, report, from, y, recipients, dashed(tone))
 }
 
-/// Draws the gap in time that an entry makes which says nothing else.
+/// Draws a Tick: a dashed line across the lanes, and beside it the time to which it moves.
 fn draw_tick(sheet: &mut Sheet, time: u64) -> Result<(), AllocError> {
     let y = sheet.y.saturating_add(MIDDLE);
     let left = sheet.lanes.participant(Lane(0)).saturating_sub(24);
@@ -241,7 +244,7 @@ fn say(sheet: &mut Sheet, words: &str, font: Font) -> Result<(), AllocError> {
     sheet.words(&label(upper, font), words, SAYS_LETTERS)
 }
 
-/// Writes the lower line with a mark.
+/// Writes the lower line, which says how a request ended, behind the mark of that.
 fn say_ending(sheet: &mut Sheet, decision: Decision<'_>) -> Result<(), AllocError> {
     let mark = mark_of(decision.ending);
     let y = sheet.y.saturating_add(LOWER);
@@ -275,6 +278,7 @@ fn say_request(
     }
 }
 
+/// Says which request is answered, and the verdicts on its views.
 fn say_response(
     sheet: &mut Sheet,
     request: u64,
@@ -292,6 +296,7 @@ fn say_response(
     sheet.words(&lower, views, BECAME_LETTERS)
 }
 
+/// Says which request is decided, and how.
 fn say_verdict(sheet: &mut Sheet, request: u64, decision: Decision<'_>) -> Result<(), AllocError> {
     let words = format!(in sheet.alloc; "decides {request}")?;
     say(sheet, words.as_str(), Font::Plain)?;

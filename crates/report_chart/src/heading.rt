@@ -12,22 +12,23 @@ const ENDINGS_Y: u32 = 60;
 
 const NAMES_Y: u32 = 112;
 
-/// The height of a lane's name and of the box round it.
+/// Where the box round a lane's name begins, and how high it is.
 const BOX_TOP: u32 = 94;
 
 const BOX_HEIGHT: u32 = 27;
 
-/// Letters that have room in the title's line, and units that a letter of a lane's name takes.
+/// Letters that have room in the title's line, and units that a letter of a lane's name takes where lanes are wide.
 const TITLE_LETTERS: u32 = 90;
 
 const NAME_LETTER: u32 = 9;
 
-/// Units that it takes where lanes are narrow, and how wide a lane is that isn't.
+/// Units that such a letter takes where lanes are narrow, and from which width on a lane is wide.
 const SMALL_LETTER: u32 = 6;
 
 const WIDE_LANE: u32 = 72;
 
-/// Draws the title, the lanes with their names, and what the columns are.
+/// Draws the title, what the columns are, and the lanes with their names; the lanes go down to the end of the rows. Then `y` of the sheet is where
+/// the first row begins.
 pub fn draw_heading(
     sheet: &mut Sheet,
     report: &Report<'_>,
@@ -115,7 +116,7 @@ fn draw_name(sheet: &mut Sheet, x: u32, name: &str, width: u32) -> Result<(), Al
     sheet.words(&label, name, letters)
 }
 
-/// How a text stands that begins at a point.
+/// The label of a text that begins at a point, in the tone of what is said.
 pub fn label(at: Point, font: Font) -> Label {
     Label {
         at,
@@ -125,7 +126,7 @@ pub fn label(at: Point, font: Font) -> Label {
     }
 }
 
-/// How a text stands that begins at a point, in the tone of what is less important.
+/// The label of a text that begins at a point, in the tone of what is less important.
 pub fn quiet(at: Point, font: Font) -> Label {
     Label {
         at,

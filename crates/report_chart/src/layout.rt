@@ -43,34 +43,34 @@ pub struct Lanes {
 }
 
 impl Lanes {
-    /// The lanes for so many participants, which share the room, each at most `MOST_STEP` wide.
+    /// The lanes for so many participants, at most eight, which share the room, each at most `MOST_STEP` wide.
     pub fn of(participants: usize) -> Lanes {
         let participants = (participants.min(MOST_LANES as usize)) as u32;
         let step = (LANES_WIDTH / (participants + OTHER_LANES)).min(MOST_STEP);
         Lanes { participants, step }
     }
 
-    /// How wide a lane is.
+    /// How wide a lane is, in units.
     pub fn step(&self) -> u32 {
         self.step
     }
 
-    /// How far from the left edge the middle of a participant's lane is.
+    /// How far from the left edge the middle of a participant's lane is, in units.
     pub fn participant(&self, lane: Lane) -> u32 {
         self.middle(lane.0.min(MOST_LANES as usize) as u32)
     }
 
-    /// How far from the left edge the middle of the log's lane is.
+    /// How far from the left edge the middle of the log's lane is, right of all participants'.
     pub fn sequencer(&self) -> u32 {
         self.middle(self.participants)
     }
 
-    /// How far from the left edge the middle of the mediator's lane is.
+    /// How far from the left edge the middle of the mediator's lane is, the last one.
     pub fn mediator(&self) -> u32 {
         self.middle(self.participants.saturating_add(1))
     }
 
-    /// The middle of the lane at an index.
+    /// How far from the left edge the middle of the lane with this number is, counted from 0.
     fn middle(&self, index: u32) -> u32 {
         LANES_LEFT
             .saturating_add(self.step / 2)
@@ -78,7 +78,7 @@ impl Lanes {
     }
 }
 
-/// A point.
+/// The point that is `x` units from the left and `y` units from the top.
 pub fn at(x: u32, y: u32) -> Point {
     Point { x, y }
 }

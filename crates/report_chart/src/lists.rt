@@ -14,7 +14,7 @@ const LINE_LETTERS: u32 = 120;
 /// How far the lines of a list stand to the right of its title.
 const INDENT: u32 = 24;
 
-/// Lists the refused submissions, if there are any.
+/// Lists the refused submissions, of which there are `count`; where there are none, nothing is drawn.
 pub fn draw_refused(
     sheet: &mut Sheet,
     report: &Report<'_>,
@@ -51,7 +51,7 @@ fn draw_refusal(
     draw_line(sheet, words.as_str(), Font::Plain)
 }
 
-/// Lists the rules that fired, if there are any.
+/// Lists which rules fired, each with its round, its contract and its command; where none did, nothing is drawn.
 pub fn draw_fired(sheet: &mut Sheet, report: &Report<'_>) -> Result<(), AllocError> {
     if report.fired.is_empty() {
         return Ok(());
@@ -69,7 +69,7 @@ fn draw_one_fired(sheet: &mut Sheet, fired: &Fired<'_>) -> Result<(), AllocError
     draw_line(sheet, told.as_str(), Font::Code)
 }
 
-/// Lists what each participant knows at the end, with its active contracts.
+/// Lists what each participant knows at the end of the run, with its active contracts below it.
 pub fn draw_summaries(sheet: &mut Sheet, report: &Report<'_>) -> Result<(), AllocError> {
     draw_title(sheet, "What each participant knows at the end")?;
     for summary in report.summaries.as_slice() {
@@ -87,6 +87,7 @@ pub fn draw_summaries(sheet: &mut Sheet, report: &Report<'_>) -> Result<(), Allo
     )
 }
 
+/// Writes the line of one participant, without its active contracts.
 fn draw_summary(
     sheet: &mut Sheet,
     report: &Report<'_>,

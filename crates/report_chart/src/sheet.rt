@@ -25,12 +25,12 @@ pub struct Sheet {
 }
 
 impl Sheet {
-    /// Goes down by so much.
+    /// Moves `y` down by this height, in units.
     pub fn skip(&mut self, height: u32) {
         self.y = self.y.saturating_add(height);
     }
 
-    /// Draws words, cut where they are wider than so many letters, with the whole text as their title then.
+    /// Draws words as one line. Where they are wider than `letters` letters they are cut, and have the whole text as their title.
     pub fn words(&mut self, label: &Label, words: &str, letters: u32) -> Result<(), AllocError> {
         if fits(words, letters) {
             return self.svg.text(label, words);
@@ -40,7 +40,7 @@ impl Sheet {
     }
 }
 
-/// The picture of a report.
+/// The picture of a report as SVG: its heading, its entries, and the lists below them.
 pub fn draw(alloc: Global, report: &Report<'_>) -> Result<Text, AllocError> {
     let counts = Counts::of(report);
     let mut sheet = begin(alloc, report, &counts)?;
@@ -53,6 +53,7 @@ pub fn draw(alloc: Global, report: &Report<'_>) -> Result<Text, AllocError> {
     svg.finish()
 }
 
+/// The sheet with nothing on it but its page; its size is that of all that will be drawn.
 fn begin(alloc: Global, report: &Report<'_>, counts: &Counts) -> Result<Sheet, AllocError> {
     let title = title_of(alloc, counts)?;
     let description = endings_of(alloc, counts)?;
@@ -83,7 +84,7 @@ fn height_of(report: &Report<'_>, counts: &Counts) -> u32 {
         .saturating_add(list_height(summaries.saturating_add(actives)))
 }
 
-/// How high a list of so many is, of which so many are drawn, where it is drawn at all.
+/// How high a list of `count` items is, of which at most `most` are drawn; 0 where there are no items, as it isn't drawn then.
 fn height_if_any(count: usize, most: usize) -> u32 {
     if count == 0 {
         0
@@ -92,7 +93,7 @@ fn height_if_any(count: usize, most: usize) -> u32 {
     }
 }
 
-/// How many lines a list of so many has, of which so many are drawn: a line more says that there are others.
+/// How many lines a list of `count` items has, of which at most `most` are drawn: one line more says that there are others.
 fn listed(count: usize, most: usize) -> u32 {
     if count > most {
         (most.min(MOST_ROWS) as u32).saturating_add(1)
@@ -101,7 +102,7 @@ fn listed(count: usize, most: usize) -> u32 {
     }
 }
 
-/// How high the rows of so many entries are together.
+/// How high the rows of so many entries are together, in units. No more than 500 are drawn, and counted.
 pub fn rows_height(entries: usize) -> u32 {
     let rows = entries.min(MOST_ROWS) as u32;
     rows.saturating_mul(ROW_HEIGHT)

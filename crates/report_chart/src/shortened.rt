@@ -4,12 +4,12 @@ use std::alloc::{AllocError, Global};
 /// The first letter of the scripts whose letters are twice as wide.
 const FIRST_WIDE: char = '\u{1100}';
 
-/// How many letters wide a character is.
+/// How many letters wide a character is: two in the scripts with wide letters, else one.
 fn width_of(letter: char) -> u32 {
     if letter < FIRST_WIDE { 1 } else { 2 }
 }
 
-/// Whether a text is at most as wide as so many letters.
+/// Whether a text is at most `most` letters wide; a character of the scripts with wide letters counts as two.
 pub fn fits(text: &str, most: u32) -> bool {
     let mut width = 0u32;
     for letter in text.chars() {
@@ -21,7 +21,7 @@ pub fn fits(text: &str, most: u32) -> bool {
     true
 }
 
-/// The beginning of a text with an ellipsis behind it, together at most as wide as so many letters.
+/// As much of the beginning of a text as is at most `most` letters wide with an ellipsis behind it. The ellipsis stands there in any case.
 pub fn shortened(alloc: Global, text: &str, most: u32) -> Result<String, AllocError> {
     let mut kept = String::new(alloc);
     let mut width = 1u32;

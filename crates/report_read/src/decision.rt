@@ -38,11 +38,12 @@ const REASONS: [&str; 13] = [
     "WrongCommon",
 ];
 
+/// Whether a word is the reason of a rejection.
 pub(crate) fn is_reason(word: &str) -> bool {
     REASONS.iter().any(|reason| *reason == word)
 }
 
-/// The decision of a verdict, or of an outcome, which may be expired or undecided too.
+/// The decision that the words behind `verdict for J` or `outcome K` say. Only an outcome may be expired or undecided. The Err is what was expected.
 pub(crate) fn read_decision<'t>(
     words: &'t str,
     hosts: &Hosts<'t>,
@@ -67,7 +68,7 @@ pub(crate) fn read_decision<'t>(
     Ok(Decision { ending, words })
 }
 
-/// Who rejects, which view, and why.
+/// Takes who rejects, which view, and why; they only have to be well formed.
 fn read_rejection<'t>(parts: &mut Words<'t>, hosts: &Hosts<'t>) -> Result<(), Expected> {
     parts.participant(hosts)?;
     match (parts.next(), parts.next()) {
@@ -76,7 +77,7 @@ fn read_rejection<'t>(parts: &mut Words<'t>, hosts: &Hosts<'t>) -> Result<(), Ex
     }
 }
 
-/// Who is missing.
+/// Takes the names of the participants whose response was missing.
 fn read_missing<'t>(parts: &mut Words<'t>, hosts: &Hosts<'t>) -> Result<(), Expected> {
     for _ in 0..MOST_PARTICIPANTS {
         match parts.next() {

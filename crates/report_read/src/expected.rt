@@ -34,7 +34,7 @@ pub enum Expected {
 }
 
 impl Expected {
-    /// What was expected, in words.
+    /// What was expected, as the line on a faulty report says it behind `expected`.
     pub fn words(&self) -> &'static str {
         match self {
             Expected::Utf8 => "UTF-8",

@@ -19,7 +19,8 @@ pub(crate) struct Finals<'t> {
     pub actives: ActiveList<'t>,
 }
 
-/// What each participant knows, in their order.
+/// Reads the lines of each participant, in the order of the report: its clean place and its base, what is withheld from it, its commits and its
+/// active contracts.
 pub(crate) fn read_finals<'t>(
     alloc: Global,
     lines: &mut Lines<'t>,
@@ -45,6 +46,7 @@ pub(crate) fn read_finals<'t>(
     })
 }
 
+/// The line of a participant, with its clean place and time. The base and all counts, which the lines below it say, are filled in later.
 fn read_summary<'t>(line: &'t str, lane: Lane, hosts: &Hosts<'t>) -> Result<Summary, Expected> {
     let mut words = Words::of(line);
     words.literal("participant", Expected::ParticipantOrEnd)?;
@@ -86,7 +88,7 @@ fn read_base(line: &str) -> Result<u64, Expected> {
     Ok(base)
 }
 
-/// The requests that come next which are withheld, counted.
+/// Reads the lines that come next of requests withheld from the participant, and gives their number.
 fn read_withheld(
     lines: &mut Lines<'_>,
     lane: Lane,
@@ -116,7 +118,7 @@ fn read_withheld_place(line: &str) -> Result<u64, Expected> {
     Ok(place)
 }
 
-/// Commits with their actions, which are counted.
+/// Reads the commits that come next with their actions, and counts both.
 fn read_commits<'t>(lines: &mut Lines<'t>, summary: &mut Summary) -> Result<(), ReportFault> {
     for _ in 0..u64::MAX {
         if !lines.begins_with("commit ") {
@@ -138,7 +140,7 @@ fn read_commit(line: &str) -> Result<(), Expected> {
     words.end()
 }
 
-/// The actions that come next: the first is a root, and none is more than one level below the one before.
+/// The number of actions in the lines that come next: the first is a root, and none is more than one level below the one before.
 fn read_actions(lines: &mut Lines<'_>) -> Result<u64, ReportFault> {
     let mut count = 0u64;
     let mut before = 0usize;
@@ -157,7 +159,7 @@ fn read_actions(lines: &mut Lines<'_>) -> Result<u64, ReportFault> {
     Ok(count)
 }
 
-/// The active contracts that come next, which are counted.
+/// Reads the lines that come next of active contracts, and gives their number.
 fn read_actives<'t>(
     lines: &mut Lines<'t>,
     lane: Lane,

@@ -29,12 +29,12 @@ impl<'t> Hosts<'t> {
         })
     }
 
-    /// How many there are.
+    /// How many participants the report has, at most eight.
     pub fn len(&self) -> usize {
         self.names.len()
     }
 
-    /// The name of a participant.
+    /// The name of the participant with this index. None: the report has fewer.
     pub fn name(&self, lane: Lane) -> Option<&'t str> {
         match self.names.get(lane.0) {
             Some(name) => Some(*name),
@@ -42,8 +42,8 @@ impl<'t> Hosts<'t> {
         }
     }
 
-    /// The participant of a name. Where the report has no end, and so is refused for that or for a line before, each name is
-    /// taken for one.
+    /// The participant of a name, None where there is none. A report without its end is refused in any case, for that or for a line before. As it may
+    /// lack lines of participants, each well-formed name is then taken for one, lest a good line before be refused.
     pub(crate) fn lane_of(&self, name: &str) -> Option<Lane> {
         for (at, host) in self.names.as_slice().iter().enumerate() {
             if *host == name {
@@ -58,7 +58,7 @@ impl<'t> Hosts<'t> {
     }
 }
 
-/// The name in the line of a participant.
+/// The name in a line of the form `participant NAME ..`. None: the line has another form.
 fn participant_in(line: &str) -> Option<&str> {
     let after = line.strip_prefix("participant ")?;
     let (name, _) = after.split_once(' ')?;

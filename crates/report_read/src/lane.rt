@@ -3,11 +3,11 @@
 /// How many participants a report may have.
 const MOST_LANES: usize = 8;
 
-/// A participant by its index in the report.
+/// A participant, by its index in the report; in a chart it has a lane of its own.
 #[derive(Clone, Copy, PartialEq, Eq)]
 pub struct Lane(pub usize);
 
-/// Participants of a report.
+/// A set of participants of a report.
 #[derive(Clone, Copy)]
 pub struct LaneSet {
     lanes: [bool; MOST_LANES],

@@ -2,7 +2,7 @@
 use crate::expected::Expected;
 use crate::report_fault::ReportFault;
 
-/// The lines that are left, and the number of the line before them.
+/// The lines of a report that are left to read, and the number of the line before them.
 #[derive(Drop)]
 pub(crate) struct Lines<'t> {
     rest: &'t str,
@@ -17,7 +17,7 @@ impl<'t> Lines<'t> {
         }
     }
 
-    /// The next line, without its line feed.
+    /// The next line, without its line feed. Err: no line is left, and `expected` was to come, or the last line has no line feed.
     pub(crate) fn next(&mut self, expected: Expected) -> Result<&'t str, ReportFault> {
         self.number = self.number.saturating_add(1);
         match self.rest.split_once('\n') {
@@ -38,6 +38,7 @@ impl<'t> Lines<'t> {
         self.rest.starts_with(beginning)
     }
 
+    /// Whether no line is left.
     pub(crate) fn is_empty(&self) -> bool {
         self.rest.is_empty()
     }
@@ -58,7 +59,7 @@ impl<'t> Lines<'t> {
         }
     }
 
-    /// What was read of the line that was taken last, with its number where it isn't what was expected.
+    /// Passes on what was read of the line that was taken last. Where it isn't what was expected, the fault gets the line's number.
     pub(crate) fn read<T: Drop>(&self, read: Result<T, Expected>) -> Result<T, ReportFault> {
         match read {
             Ok(value) => Ok(value),

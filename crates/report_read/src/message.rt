@@ -2,7 +2,8 @@
 use crate::decision::Decision;
 use crate::lane::{Lane, LaneSet};
 
-/// What an entry says. Requests are named by their places; the words are those of the report.
+/// What an entry says. Requests are named by their places. `views` are the words of the report, paths each with a verdict, and `all_approve` tells
+/// whether all of these approve.
 #[derive(Clone, Copy)]
 pub enum Message<'t> {
     Request {

@@ -28,7 +28,8 @@ pub struct Report<'t> {
     pub actives: ActiveList<'t>,
 }
 
-/// The text read as a report (docs/FORMATS.md, 'The report'), or its first line that isn't as it has to be.
+/// The text read as a report (docs/FORMATS.md, 'The report'). Err: its first line that isn't as the format has it, with what was expected there, or
+/// want of memory.
 pub fn read_report<'t>(alloc: Global, text: &'t str) -> Result<Report<'t>, ReportFault> {
     let hosts = Hosts::of(alloc, text)?;
     let mut lines = Lines::new(text);

@@ -11,7 +11,7 @@ use crate::submit_result::{Answer, SubmitResult, SubmitResultList};
 use crate::words::{Words, is_name, number_of};
 use std::alloc::Global;
 
-/// Faults that nothing follows.
+/// Names of faults that stand alone; `NoRoles` is one more.
 const FAULTS: [&str; 14] = [
     "Paused",
     "UnknownTemplate",
@@ -29,7 +29,7 @@ const FAULTS: [&str; 14] = [
     "TooBig",
 ];
 
-/// The results that come next.
+/// Reads the results of submissions, whose lines come next.
 pub(crate) fn read_results<'t>(
     alloc: Global,
     lines: &mut Lines<'t>,
@@ -77,7 +77,7 @@ fn read_answer<'t>(words: &mut Words<'t>) -> Result<Answer<'t>, Expected> {
     }
 }
 
-/// Whether words name a fault, with what follows its name.
+/// Whether a text is the name of a fault with the words that belong behind it.
 fn is_fault(text: &str) -> bool {
     let mut words = Words::of(text);
     let is_known = match words.next() {
@@ -97,7 +97,7 @@ fn is_number(word: Option<&str>) -> bool {
     }
 }
 
-/// The rules that fired, of which the lines come next.
+/// Reads which rules fired, whose lines come next.
 pub(crate) fn read_fired<'t>(
     alloc: Global,
     lines: &mut Lines<'t>,
@@ -125,7 +125,7 @@ fn read_one_fired(line: &str) -> Result<Fired<'_>, Expected> {
     }
 }
 
-/// The outcomes that come next.
+/// Reads the outcomes of requests, whose lines come next.
 pub(crate) fn read_outcomes<'t>(
     alloc: Global,
     lines: &mut Lines<'t>,

@@ -24,7 +24,7 @@ fn blanks_of(line: &str) -> usize {
         .unwrap_or(bytes.len())
 }
 
-/// Whether a line is that of an action.
+/// Whether a line is that of an action, with an even number of blanks before it.
 pub(crate) fn is_action(line: &str) -> bool {
     let blanks = blanks_of(line);
     let mut scan = Scan::new(line.as_bytes());
@@ -44,7 +44,8 @@ pub(crate) fn is_instance_as_name(text: &str) -> bool {
     scan.instance() && scan.literal(b" as ") && scan.name() && scan.is_at_end()
 }
 
-/// The bytes that are left. Each method takes what it is named after from their front, and tells whether it stood there.
+/// The bytes that are left to read. Each method with a truth value takes what it is named after from their front, and tells whether it stood there;
+/// after `false` some of it may be gone.
 #[derive(Drop)]
 struct Scan<'b> {
     rest: &'b [u8],
@@ -59,7 +60,7 @@ impl<'b> Scan<'b> {
         self.rest.is_empty()
     }
 
-    /// Takes so many bytes, and gives them.
+    /// Takes so many bytes from the front and gives them. Where there are fewer it takes all and gives none.
     fn skip(&mut self, count: usize) -> &'b [u8] {
         let all = self.rest;
         self.rest = all.get(count..).unwrap_or(&[]);
@@ -89,7 +90,7 @@ impl<'b> Scan<'b> {
         Name::of_bytes(self.skip(end)).is_some()
     }
 
-    /// Names with a comma between them, or none.
+    /// Names with a comma between them, or nothing at all.
     fn names(&mut self) -> bool {
         if !self
             .rest
@@ -226,7 +227,7 @@ enum Escape {
 }
 
 impl Escape {
-    /// The state after one byte more, and none where the byte can't stand there.
+    /// The state after one byte more. None: the byte can't stand there.
     fn after(self, byte: u8) -> Option<Escape> {
         match self {
             Escape::Outside if byte == b'\\' => Some(Escape::Backslash),

@@ -11,10 +11,12 @@ pub(crate) struct Words<'t> {
 }
 
 impl<'t> Words<'t> {
+    /// All words of a line.
     pub(crate) fn of(line: &'t str) -> Words<'t> {
         Words { rest: Some(line) }
     }
 
+    /// Takes the next word. None: no word is left.
     pub(crate) fn next(&mut self) -> Option<&'t str> {
         let rest = self.rest?;
         match rest.split_once(' ') {
@@ -29,13 +31,14 @@ impl<'t> Words<'t> {
         }
     }
 
-    /// All words that are left.
+    /// Takes all words that are left, as one text. None: no word is left.
     pub(crate) fn rest(&mut self) -> Option<&'t str> {
         let rest = self.rest;
         self.rest = None;
         rest
     }
 
+    /// Err where a word is left.
     pub(crate) fn end(&self) -> Result<(), Expected> {
         match self.rest {
             None => Ok(()),
@@ -43,6 +46,7 @@ impl<'t> Words<'t> {
         }
     }
 
+    /// Takes the next word, which has to be this one; else the Err is `expected`.
     pub(crate) fn literal(&mut self, word: &str, expected: Expected) -> Result<(), Expected> {
         match self.next() {
             Some(found) if found == word => Ok(()),
@@ -50,6 +54,7 @@ impl<'t> Words<'t> {
         }
     }
 
+    /// Takes the next word, which has to be a number; else the Err is `expected`.
     pub(crate) fn number(&mut self, expected: Expected) -> Result<u64, Expected> {
         match self.next() {
             Some(word) => number_of(word).ok_or(expected),
@@ -57,6 +62,7 @@ impl<'t> Words<'t> {
         }
     }
 
+    /// Takes the next word, which has to have the form of a name; else the Err is `expected`.
     pub(crate) fn name(&mut self, expected: Expected) -> Result<&'t str, Expected> {
         match self.next() {
             Some(word) if is_name(word) => Ok(word),
@@ -64,6 +70,7 @@ impl<'t> Words<'t> {
         }
     }
 
+    /// Takes the next word, which has to name a participant of the report.
     pub(crate) fn participant(&mut self, hosts: &Hosts<'t>) -> Result<Lane, Expected> {
         match self.next() {
             Some(word) => hosts.lane_of(word).ok_or(Expected::Participant),
@@ -72,11 +79,12 @@ impl<'t> Words<'t> {
     }
 }
 
+/// Whether a word has the form of a name.
 pub(crate) fn is_name(word: &str) -> bool {
     Name::read(word).is_some()
 }
 
-/// The number that a word spells in decimal digits, without a leading zero.
+/// The number that a word spells in decimal digits, without a leading zero. None: it spells none, or one of 2^64 or more.
 pub(crate) fn number_of(word: &str) -> Option<u64> {
     let bytes = word.as_bytes();
     if !bytes.iter().all(|byte| byte.is_ascii_digit()) {
@@ -88,7 +96,7 @@ pub(crate) fn number_of(word: &str) -> Option<u64> {
     }
 }
 
-/// Whether a word is steps of a path, with a point between them.
+/// Whether a word is a path: numbers with a point between them.
 pub(crate) fn is_path(word: &str) -> bool {
     word.split('.').all(|step| number_of(step).is_some())
 }

@@ -6,6 +6,8 @@ use Rattle.ledger_terms.specs.declared.action.Action.{Action}
 use Rattle.ledger_terms.specs.declared.action.Action.TheVariants.{Create, Exercise, Fetch}
 use Rattle.report_text.specs.Values.{instance_text, names_text, value_text, values_text}
 
+-- An action in the report: its kind (`consume` is a consuming Exercise, `exercise` another one), the instance of its contract, of an Exercise the
+-- choice, the arguments, the actors and the result, of a Fetch the actors. Ids and salts aren't told.
 abbrev pub action_text : Action → List ℕ
 action_text (Create id instance) = codes "create " ++ instance_text instance
 action_text (Exercise id salt instance choice args actors consuming result) =
@@ -13,7 +15,7 @@ action_text (Exercise id salt instance choice args actors consuming result) =
     ++ values_text args ++ codes " by " ++ names_text actors ++ codes " = " ++ value_text result
 action_text (Fetch id salt instance actors) = codes "fetch " ++ instance_text instance ++ codes " by " ++ names_text actors
 
--- two spaces for each level
+-- the blanks in front of an action at this level: two (bytes 32) for each level
 abbrev pub indent : ℕ → List ℕ
 indent zero = []
 indent (suc level) = 32 ∷ 32 ∷ indent level

@@ -13,7 +13,8 @@ use Rattle.report_text.specs.Results.{result_lines}
 use Rattle.report_text.specs.Outcomes.{outcome_lines}
 use Rattle.report_text.specs.Participants.{participant_lines}
 
--- the report of a run: its log, the results of its submissions, what rules caused, what became of its requests, and the participants
+-- The report of a run, line by line: its log, the results of its submissions, what rules caused, what became of its requests, and the participants.
+-- `views` are what the participants know, in the order of the topology.
 abbrev pub report_of : Topology → List Round → List Entry → List SubmitResult → List NodeView → List Caused → List ℕ
 report_of topology rounds log results views caused =
     codes "entries " ++ decimal (length log) ++ codes "\n"

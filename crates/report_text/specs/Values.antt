@@ -6,26 +6,28 @@ use Rattle.ledger_terms.specs.declared.instance.Instance.{Instance}
 use Rattle.ledger_terms.specs.declared.value.Value.{Value}
 use Rattle.ledger_terms.specs.declared.value.Value.TheVariants.{Unit as UnitValue, Int, Bool as BoolValue, Text, Party, Contract, Parties}
 
--- the texts of the items, with a byte between them
+-- the texts of the items, which `text` gives, with the byte `separator` between each two; nothing of an empty list
 abbrev pub between : {A : Type 0} → ℕ → (A → List ℕ) → List A → List ℕ
 between separator text [] = []
 between separator text (x ∷ xs) = text x ++ flat_map (λ y. separator ∷ text y) xs
 
--- two lower case hexadecimal digits of a byte
+-- a byte as two hexadecimal digits in lower case
 abbrev pub hex_pair : ℕ → List ℕ
 hex_pair byte = digit_glyph false (byte / 16) ∷ digit_glyph false (byte % 16) ∷ []
 
--- whether a byte of a text is printed by its digits: a control byte, a double quote or a backslash
+-- whether a byte of a text is printed by its hexadecimal digits: a control byte, a double quote or a backslash
 abbrev pub is_escaped : ℕ → Bool
 is_escaped byte = nat_lt byte 32 || (byte == 127 || (byte == 34 || byte == 92))
 
+-- a byte of a text as it is printed: itself, or \x with its two hexadecimal digits
 abbrev pub byte_text : ℕ → List ℕ
 byte_text byte = if is_escaped byte then codes "\\x" ++ hex_pair byte else byte ∷ []
 
--- names with a comma between them
+-- names with a comma (byte 44) between them
 abbrev pub names_text : List (List ℕ) → List ℕ
 names_text names = between 44 (λ name. name) names
 
+-- a value in the report, by its kind: a text in double quotes, a contract as # with its id in hexadecimal digits, parties in brackets
 abbrev pub value_text : Value → List ℕ
 value_text UnitValue = codes "()"
 value_text (Int number) = signed_decimal number
@@ -35,9 +37,10 @@ value_text (Party party) = party
 value_text (Contract id) = codes "#" ++ flat_map hex_pair id
 value_text (Parties parties) = codes "[" ++ names_text parties ++ codes "]"
 
--- values with a comma between them, in parentheses
+-- values in parentheses, with a comma (byte 44) between them
 abbrev pub values_text : List Value → List ℕ
 values_text values = codes "(" ++ between 44 value_text values ++ codes ")"
 
+-- an instance in the report: the template, as package and name with a point between them, and the fields in parentheses
 abbrev pub instance_text : Instance → List ℕ
 instance_text i = i.template.package ++ codes "." ++ i.template.name ++ values_text i.fields

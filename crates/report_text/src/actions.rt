@@ -1,4 +1,4 @@
-//! The lines of actions.
+//! The lines of actions. After want of memory nothing is said of the text that they were to be put into.
 ghost use Rattle.std.specs.Prelude.{◌≡◌, ◌++◌, OnOk, string_bytes};
 ghost use Rattle.report_text.specs.Actions.{action_text, indent, tree_lines};
 
@@ -6,7 +6,8 @@ use crate::values::{put_instance, put_names, put_value, put_values};
 use ledger_terms::{Action, ActionNodeList};
 use std::alloc::AllocError;
 
-/// Puts an action at the end.
+/// Puts an action at the end of the text: its kind, its contract's instance, and of an Exercise choice, arguments, actors and result, of a Fetch the
+/// actors. Ids and salts aren't told.
 pub fn put_action(out: &mut String, action: &Action) -> Result<(), AllocError>
     ensures { OnOk result (string_bytes out.new ≡ string_bytes out.old ++ action_text action.now) }
 {
@@ -56,7 +57,8 @@ fn put_indent(out: &mut String, level: u64) -> Result<(), AllocError>
     Ok(())
 }
 
-/// Puts a line at the end for each action of the trees, indented by its level: `level` for roots, and one more for each step down.
+/// Puts a line at the end of the text for each action of the trees in pre-order, indented by two spaces for each level: `level` for roots, and one more
+/// for each step down.
 pub fn put_trees(out: &mut String, level: u64, trees: &ActionNodeList) -> Result<(), AllocError>
     ensures { OnOk result (string_bytes out.new ≡ string_bytes out.old ++ tree_lines level trees.now) }
 {

@@ -1,4 +1,4 @@
-//! The lines of a log's entries.
+//! The lines of a log's entries. After want of memory nothing is said of the text that they were to be put into.
 ghost use Rattle.std.specs.Prelude.{◌≡◌, ◌++◌, IfOk, OnOk, string_bytes};
 ghost use Rattle.std.specs.List.{flat_map, list_any};
 ghost use Rattle.ledger_terms.specs.Hosting.{keeps_party};
@@ -15,7 +15,7 @@ use ledger_terms::{Host, HostList, Name, ParticipantId, ParticipantIdList, Party
 use proto_model::requested_views;
 use std::alloc::{AllocError, Global};
 
-/// Puts a participant's name at the end.
+/// Puts the name of the participant with the index `at` among the hosts of the topology at the end of the text; nothing where there is none.
 pub fn put_host(out: &mut String, hosts: &HostList, at: ParticipantId) -> Result<(), AllocError>
     ensures { OnOk result (string_bytes out.new ≡ string_bytes out.old ++ host_text hosts.now at) }
 {
@@ -97,7 +97,7 @@ fn put_recipients(
     put_recipients_from(out, request.sender, views.as_slice(), hosts.as_slice())
 }
 
-/// Puts a path at the end, its steps joined by points.
+/// Puts a path at the end of the text, its indices joined by points, as 0.1.
 pub fn put_path(out: &mut String, path: &Path) -> Result<(), AllocError>
     ensures { OnOk result (string_bytes out.new ≡ string_bytes out.old ++ path_text path.now) }
 {
@@ -133,7 +133,8 @@ fn put_views(out: &mut String, verdicts: &ViewVerdictList) -> Result<(), AllocEr
     Ok(())
 }
 
-/// Puts a decision at the end.
+/// Puts the mediator's decision at the end of the text: of a rejection with the participant, the view and the reason, of a timeout with the participants
+/// that haven't responded. The names are those of `hosts`.
 pub fn put_decision(
     out: &mut String,
     hosts: &HostList,
@@ -209,7 +210,8 @@ fn put_entry(
     out.push_str("\n")
 }
 
-/// Puts a line at the end for each entry of the log.
+/// Puts a line at the end of the text for each entry of the log, with its place, its time in microseconds and its message. `hosts` are the topology's,
+/// for the names of participants.
 pub fn put_entries(
     alloc: Global,
     out: &mut String,

@@ -1,4 +1,4 @@
-//! The lines of what rules caused.
+//! The lines of what rules caused. After want of memory nothing is said of the text that they were to be put into.
 ghost use Rattle.std.specs.Prelude.{◌≡◌, ◌++◌, OnOk, codes, decimal, string_bytes};
 ghost use Rattle.report_text.specs.Fired.{fired_line, fired_lines};
 
@@ -28,7 +28,7 @@ fn put_one(out: &mut String, one: &Caused) -> Result<(), AllocError>
     out.push_str("\n")
 }
 
-/// Puts a line at the end for each submission that a rule caused.
+/// Puts a line at the end of the text for each submission that a rule caused: its round, the rule, the contract by its instance, and its command.
 pub fn put_fired(out: &mut String, caused: &CausedList) -> Result<(), AllocError>
     ensures { OnOk result (string_bytes out.new ≡ string_bytes out.old ++ fired_lines caused.now) }
 {

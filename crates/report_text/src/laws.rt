@@ -9,7 +9,8 @@ ghost use Rattle.framed_form.specs.Framed.{is_framed};
 ghost use Rattle.framed_form.specs.FramedReading.{framed_reading};
 ghost use Rattle.report_text.specs.Entries.{is_recipient, views_told};
 
-/// The recipients that stand in the report beside a framed request, whoever sent it, are those of the protocol.
+/// The recipients that the report names beside a framed request, whoever sent it, are those of the protocol: participant p, whose host is `host`, is
+/// one by the report's test exactly where it is one by the protocol's.
 pub fn recipients_are_those_of_the_protocol()
     ensures { (topology : Topology) (packages : Packages) (request : Request) (p : ℕ) (host : Host) → is_framed topology request ≡ true
         → slice_get topology.hosts p ≡ Some host

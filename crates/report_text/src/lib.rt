@@ -1,5 +1,5 @@
-//! The exact text of a run: a line for each entry, result, outcome, participant, base of one that restarted, withheld place, commit,
-//! action and active contract.
+//! The exact text of a run: a line for each entry, result, firing of a rule, outcome, participant, base of one that restarted, withheld
+//! place, commit, action and active contract.
 #![tactic(auto)]
 
 mod actions;

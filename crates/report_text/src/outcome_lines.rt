@@ -1,4 +1,4 @@
-//! The lines of what became of the requests of a log.
+//! The lines of what became of the requests of a log. After want of memory nothing is said of the text that they were to be put into.
 ghost use Rattle.std.specs.Prelude.{◌≡◌, ◌++◌, OnOk, string_bytes, is_some};
 ghost use Rattle.canton_model.specs.Log.{request_of, decision_time_of};
 ghost use Rattle.canton_model.specs.Timeline.{timeline_of, outcome_of};
@@ -11,6 +11,7 @@ use canton_model::{EntryList, Message};
 use ledger_terms::Topology;
 use std::alloc::{AllocError, Global};
 
+/// Whether the message of an entry is a request, of which the report then tells the outcome.
 pub fn is_request(message: &Message) -> bool
     ensures { result ≡ is_some (request_of message.now) }
 {
@@ -54,7 +55,7 @@ fn put_outcome_line(
     out.push_str("\n")
 }
 
-/// Puts a line at the end for each request of the log, with what became of it.
+/// Puts a line at the end of the text for each request of the log, with what became of it over the whole log.
 pub fn put_outcomes(
     alloc: Global,
     out: &mut String,

@@ -47,13 +47,14 @@ fn keep_first<'l>(
     Ok(())
 }
 
+// The later of two times.
 fn later(time: u64, other: u64) -> u64
     ensures { result ≡ max time other }
 {
     if time < other { other } else { time }
 }
 
-/// The time of the entry at a place, or 0.
+/// The time of the entry at a place, or 0 where none stands there.
 fn time_at(log: &EntryList, place: usize) -> u64
     ensures { result ≡ time_of (slice_get log.now place) }
 {
@@ -63,7 +64,7 @@ fn time_at(log: &EntryList, place: usize) -> u64
     }
 }
 
-/// Whether a time is later than the decision time of a request at another. The sum of a time and the timeouts may be past
+/// Whether a time is later than the decision time of a request that was sequenced at the time `sent`. The sum of a time and the timeouts may be past
 /// every u64.
 fn is_later(time: u64, sent: u64, params: &Params) -> bool
     ensures { result ≡ nat_lt (sent + params.now.response_timeout + params.now.reaction_timeout) time }
@@ -75,7 +76,7 @@ fn is_later(time: u64, sent: u64, params: &Params) -> bool
 }
 
 impl<'l> Outcomes<'l> {
-    /// Reads a log.
+    /// Reads a log once, so that what became of its requests can be asked.
     pub fn of(alloc: Global, log: &'l EntryList) -> Result<Outcomes<'l>, AllocError>
         ensures { IfOk result (λ outcomes. outcomes ≡ log.now) }
     {
@@ -92,14 +93,15 @@ impl<'l> Outcomes<'l> {
         })
     }
 
-    /// The decision of the first verdict on the request at this place.
+    /// The decision of the first verdict on the request at the place `request`; None where the log has no verdict on it.
     pub fn verdict(&self, request: u64) -> Option<&'l Decision>
         ensures { option_copied result ≡ verdict_on request (timeline_of self.now) }
     {
         self.verdicts.get(&request).copied()
     }
 
-    /// Whether some entry is later than the decision time of the request at the place.
+    /// Whether some entry of the log is later than the decision time of the request at the place, by the timeouts of `params`. So without a verdict the
+    /// request is expired where this is true, and undecided where it is false.
     pub fn has_passed(&self, place: usize, params: &Params) -> bool
         ensures { result ≡ is_past (decision_time_of params.now self.now place) (timeline_of self.now) }
     {

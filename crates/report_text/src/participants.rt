@@ -1,4 +1,4 @@
-//! The lines of the participants.
+//! The lines of the participants. After want of memory nothing is said of the text that they were to be put into.
 ghost use Rattle.std.specs.Prelude.{◌≡◌, ◌++◌, OnOk, string_bytes};
 ghost use Rattle.std.specs.List.{flat_map, zip};
 ghost use Rattle.report_text.specs.Participants.{commit_lines, active_line, participant_line, participant_lines, pruned_line, withheld_line};
@@ -92,7 +92,8 @@ fn put_participant(out: &mut String, host: &Host, view: &NodeView) -> Result<(),
     put_actives(out, &view.active)
 }
 
-/// Puts the lines of each participant at the end. `views` has what each knows, in the order of `hosts`.
+/// Puts the lines of each participant at the end of the text: its clean place and time, its base if it restarted, and what it knows at its clean place.
+/// `views` has what each knows, in the order of `hosts`.
 pub fn put_participants(
     out: &mut String,
     hosts: &HostList,

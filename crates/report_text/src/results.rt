@@ -1,4 +1,4 @@
-//! The lines of the submissions' results.
+//! The lines of the submissions' results. After want of memory nothing is said of the text that they were to be put into.
 ghost use Rattle.std.specs.Prelude.{◌≡◌, ◌∷◌, [], ◌++◌, IfOk, OnOk, length, string_bytes, option_copied, slice_get, drop};
 ghost use Rattle.std.specs.List.{flat_map, zip};
 ghost use Rattle.report_text.specs.Results.{fault_text, answer_text, caused_in, of_round, result_line, result_lines, submitted_in};
@@ -79,7 +79,7 @@ fn answer_at(answers: &[SubmitResult], at: usize) -> Option<&SubmitResult>
     answers.get(at)
 }
 
-/// Puts a line for each submission of a round at the end that has an answer; they are answered in order.
+/// Puts a line at the end for each submission of a round that has a result; `answers` has these in the order of the submissions.
 fn put_submits(
     out: &mut String,
     hosts: &HostList,
@@ -108,7 +108,7 @@ fn answers_after(answers: &[SubmitResult], count: usize) -> &[SubmitResult]
     }
 }
 
-// Puts the line of what a rule caused, if that was in the round and has an answer, and gives the answers behind its own.
+// Puts the line of what a rule caused, if that was in the round and has a result, and gives the results behind its own.
 fn put_one_caused<'a>(
     out: &mut String,
     hosts: &HostList,
@@ -129,7 +129,7 @@ fn put_one_caused<'a>(
     Ok(answers_after(answers, 1))
 }
 
-// Puts a line for each of what rules caused in a round that has an answer, and gives the answers behind those.
+// Puts a line for each of what rules caused in a round that has a result, and gives the results behind those.
 fn put_caused<'a>(
     out: &mut String,
     hosts: &HostList,
@@ -148,7 +148,7 @@ fn put_caused<'a>(
     Ok(rest)
 }
 
-/// Puts a line at the end for each submission that has a result.
+/// Puts a line at the end of the text for each submission that has a result: in script order, and behind a round's own those that rules caused in it.
 pub fn put_results(
     out: &mut String,
     hosts: &HostList,

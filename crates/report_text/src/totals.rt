@@ -185,8 +185,8 @@ fn put_active_totals(
     Ok(())
 }
 
-/// The summary of a run: how many requests ended how, how many submissions were refused, and of each participant how many
-/// contracts are active at its clean place, with the sum of the amounts of those that are an Iou.
+/// The summary of a run: how many requests ended how, how many submissions were refused, and of each participant how many contracts are active at its
+/// clean place, with the sum of the amounts of those that are an Iou. `actives` has these contracts for each participant, in the order of the topology.
 pub fn summary(
     alloc: Global,
     topology: &Topology,

@@ -1,4 +1,4 @@
-//! The text of values and instances.
+//! The text of values and instances. After want of memory nothing is said of a text that something was to be put into.
 ghost use Rattle.std.specs.Prelude.{◌≡◌, ◌++◌, ◌<◌, OnOk, false, string_bytes, decimal};
 ghost use Rattle.std.specs.Fmt.{signed_decimal, digit_glyph};
 ghost use Rattle.std.specs.List.{flat_map};
@@ -8,7 +8,7 @@ use itoa::Buffer;
 use ledger_terms::{Hash, Instance, Name, Value};
 use std::alloc::AllocError;
 
-/// Puts a number at the end.
+/// Puts a number in decimal digits at the end of the text.
 pub fn put_number(out: &mut String, number: u64) -> Result<(), AllocError>
     ensures { OnOk result (string_bytes out.new ≡ string_bytes out.old ++ decimal number) }
 {
@@ -23,7 +23,7 @@ fn put_signed(out: &mut String, number: i64) -> Result<(), AllocError>
     out.push_str(buffer.format(number))
 }
 
-/// Puts names at the end, with a comma between them.
+/// Puts names at the end of the text, with a comma between them.
 pub fn put_names(out: &mut String, names: &[Name]) -> Result<(), AllocError>
     ensures { OnOk result (string_bytes out.new ≡ string_bytes out.old ++ names_text names.now) }
 {
@@ -72,7 +72,7 @@ fn put_hash(out: &mut String, hash: &Hash) -> Result<(), AllocError>
     put_digits(out, &hash.0)
 }
 
-/// Puts a value at the end.
+/// Puts a value at the end of the text: a text in double quotes, a contract as # with its id in hexadecimal digits, parties in brackets.
 pub fn put_value(out: &mut String, value: &Value) -> Result<(), AllocError>
     ensures { OnOk result (string_bytes out.new ≡ string_bytes out.old ++ value_text value.now) }
 {
@@ -104,7 +104,7 @@ fn needs_escape(byte: u8) -> bool
     byte < 32 || byte == 127 || byte == b'"' || byte == b'\\'
 }
 
-/// Puts a text at the end, its control bytes, quotes and backslashes as digits.
+/// Puts a text at the end, its control bytes, double quotes and backslashes as \x with two hexadecimal digits.
 fn put_escaped(out: &mut String, text: &str) -> Result<(), AllocError>
     ensures { OnOk result (string_bytes out.new ≡ string_bytes out.old ++ flat_map byte_text text.now) }
 {
@@ -136,7 +136,7 @@ fn put_items(out: &mut String, values: &[Value]) -> Result<(), AllocError>
     Ok(())
 }
 
-/// Puts values at the end, in parentheses and with a comma between them.
+/// Puts values at the end of the text, in parentheses and with a comma between them.
 pub fn put_values(out: &mut String, values: &[Value]) -> Result<(), AllocError>
     ensures { OnOk result (string_bytes out.new ≡ string_bytes out.old ++ values_text values.now) }
 {
@@ -145,7 +145,7 @@ pub fn put_values(out: &mut String, values: &[Value]) -> Result<(), AllocError>
     out.push_str(")")
 }
 
-/// Puts an instance at the end.
+/// Puts an instance at the end of the text: its template, as package and name with a point between them, and its fields in parentheses.
 pub fn put_instance(out: &mut String, instance: &Instance) -> Result<(), AllocError>
     ensures { OnOk result (string_bytes out.new ≡ string_bytes out.old ++ instance_text instance.now) }
 {

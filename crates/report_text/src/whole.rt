@@ -15,8 +15,8 @@ use node_core::NodeViewList;
 use std::alloc::{AllocError, Global};
 use trigger_rules::CausedList;
 
-/// The text of a run: its log, the results of the submissions, what rules caused, the outcomes of the requests, and what each participant
-/// knows at its clean place. Each line ends with one line feed.
+/// The report of a run: its log, the results of the submissions, what rules caused, the outcomes of the requests, and what each participant knows at its
+/// clean place, `views`, in the order of the topology. Each line ends with one line feed.
 pub fn report(
     alloc: Global,
     topology: &Topology,

@@ -8,14 +8,14 @@ use canton_model::Outcome;
 use indexmap::IndexMap;
 use std::alloc::AllocError;
 
-/// The request at a place.
+/// The decision time and the outcome of the request at a place, and None where none is tracked there.
 pub fn tracked(pairs: &IndexMap<u64, Tracked>, place: u64) -> Option<Tracked>
     ensures { result ≡ tracked_at pairs.now.entries place }
 {
     pairs.get(&place).copied()
 }
 
-/// The request at a place gets the outcome.
+/// Gives the request at a place this outcome. `decision` is its decision time, as it was. Takes no memory, since the request is there.
 pub fn settle_pair(pairs: &mut IndexMap<u64, Tracked>, place: u64, decision: u64, outcome: Outcome)
     requires { option_map (λ t. t.decision) (tracked_at pairs.old.entries place) ≡ Some decision }
     ensures { pairs.new.entries ≡ settled place outcome pairs.old.entries }
@@ -23,7 +23,7 @@ pub fn settle_pair(pairs: &mut IndexMap<u64, Tracked>, place: u64, decision: u64
     let _ = pairs.insert(place, Tracked { decision, outcome }).unwrap();
 }
 
-/// One more request.
+/// Puts one more request behind the others. Room was made for it, so it takes no memory.
 pub fn push_pair(pairs: &mut IndexMap<u64, Tracked>, place: u64, tracked: Tracked)
     requires room { 0 < spare pairs.old }
     requires absent { tracked_at pairs.old.entries place ≡ None }

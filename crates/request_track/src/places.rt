@@ -2,7 +2,7 @@
 ghost use Rattle.std.specs.Prelude.{◌≡◌, ◌+◌, ◌<◌, ◌≤◌, ℕ, true, min, length, get_or, insert, remove, vec_len, vec_capacity, MatchOption};
 ghost use Rattle.request_track.specs.Pairs.{Rising, in_place, without, first_or, put_if, drop_if};
 
-// The place at an index.
+// The place at an index of the vector.
 fn place_at(places: &Vec<u64>, at: usize) -> u64
     requires { at < vec_len places.now }
     ensures { result ≡ get_or places.now.items at 0 }
@@ -10,7 +10,7 @@ fn place_at(places: &Vec<u64>, at: usize) -> u64
     places[at]
 }
 
-// How many of the places are smaller than one.
+// How many of the places are smaller than `place`.
 fn count_below(places: &[u64], place: u64) -> usize
     requires { Rising places.now }
     ensures within { result ≤ length places.now }
@@ -20,7 +20,7 @@ fn count_below(places: &[u64], place: u64) -> usize
     places.partition_point(|there| *there < place)
 }
 
-// Where a place belongs: in front of the first that isn't smaller.
+// The index at which a place belongs: in front of the first that isn't smaller.
 fn place_for(places: &Vec<u64>, place: u64) -> usize
     requires { Rising places.now.items }
     ensures within { result ≤ vec_len places.now }
@@ -29,7 +29,7 @@ fn place_for(places: &Vec<u64>, place: u64) -> usize
     count_below(places.as_slice(), place)
 }
 
-/// One more place, in the room that is there.
+/// Puts one more place where it belongs. Room was made for it, so it takes no memory.
 pub fn insert_place(places: &mut Vec<u64>, place: u64)
     requires room { vec_len places.old < vec_capacity places.old }
     requires rising { Rising places.old.items }
@@ -41,7 +41,7 @@ pub fn insert_place(places: &mut Vec<u64>, place: u64)
     places.insert(at, place).unwrap();
 }
 
-// Where a place stands.
+// The index at which a place stands, and None where it isn't there.
 fn place_of(places: &Vec<u64>, place: u64) -> Option<usize>
     requires { Rising places.now.items }
     ensures { MatchOption result (without place places.now.items ≡ places.now.items)
@@ -59,7 +59,7 @@ fn place_of(places: &Vec<u64>, place: u64) -> Option<usize>
     None
 }
 
-/// Without a place.
+/// Takes a place out. Nothing changes where it isn't there.
 pub fn remove_place(places: &mut Vec<u64>, place: u64)
     requires { Rising places.old.items }
     ensures places { places.new.items ≡ without place places.old.items }
@@ -71,7 +71,7 @@ pub fn remove_place(places: &mut Vec<u64>, place: u64)
     }
 }
 
-/// The first place, and at most the cursor.
+/// The first of the places, or the cursor where that is less or there is no place.
 pub fn first_or(places: &Vec<u64>, cursor: u64) -> u64
     ensures { result ≡ first_or places.now.items cursor }
 {
@@ -81,7 +81,7 @@ pub fn first_or(places: &Vec<u64>, cursor: u64) -> u64
     }
 }
 
-/// One more place, if it is wanted, in the room that is there.
+/// Puts one more place where it belongs, if it is wanted. Room was made for it, so it takes no memory.
 pub fn insert_if(places: &mut Vec<u64>, wanted: bool, place: u64)
     requires room { vec_len places.old < vec_capacity places.old }
     requires rising { Rising places.old.items }
@@ -93,7 +93,7 @@ pub fn insert_if(places: &mut Vec<u64>, wanted: bool, place: u64)
     }
 }
 
-/// Without a place, if it is to go.
+/// Takes a place out, if `wanted` says so. Nothing changes where it isn't there.
 pub fn remove_if(places: &mut Vec<u64>, wanted: bool, place: u64)
     requires { Rising places.old.items }
     ensures places { places.new.items ≡ drop_if wanted place places.old.items }

@@ -11,7 +11,7 @@ pub struct Tracked {
     pub outcome: Outcome,
 }
 
-/// Whether a request is undecided.
+/// Whether an outcome is Undecided, that is none yet.
 pub fn is_undecided(outcome: Outcome) -> bool
     ensures { result ≡ is_undecided outcome }
 {

@@ -37,7 +37,7 @@ impl Model for Tracker {
         × Apart t.pairs.entries × (0 < length t.pairs.entries → length t.pairs.entries + 1 ≤ vec_capacity t.undecided) };
 }
 
-// The request at a place that is tracked gets the outcome.
+// Gives the request at a place that is tracked, as `old` says, this outcome.
 fn settle_at(
     pairs: &mut IndexMap<u64, Tracked>,
     undecided: &mut Vec<u64>,
@@ -57,7 +57,7 @@ fn settle_at(
     insert_if(undecided, is_undecided(outcome), place);
 }
 
-// Whether a request is undecided, and its decision time is below the time.
+// Whether a request, where one is tracked, is undecided and its decision time is before `time`.
 fn is_late(tracked: &Option<Tracked>, time: u64) -> bool
     ensures { result ≡ late_tracked time tracked.now }
 {
@@ -67,7 +67,7 @@ fn is_late(tracked: &Option<Tracked>, time: u64) -> bool
     }
 }
 
-// The first of the undecided places, where it is late.
+// The first of the undecided places, where the request there is late at `time`; else None.
 fn late_first(pairs: &IndexMap<u64, Tracked>, undecided: &Vec<u64>, time: u64) -> Option<u64>
     ensures { result ≡ late_first time pairs.now.entries undecided.now.items }
 {
@@ -83,7 +83,7 @@ fn late_first(pairs: &IndexMap<u64, Tracked>, undecided: &Vec<u64>, time: u64) -
     }
 }
 
-// The request at an undecided place expires if it is late.
+// Lets the request at an undecided place expire if it is late at `time`, and says whether it was.
 fn expire_at(
     pairs: &mut IndexMap<u64, Tracked>,
     undecided: &mut Vec<u64>,
@@ -109,7 +109,8 @@ fn expire_at(
     true
 }
 
-// Goes on from an undecided place, which leaves the list if it expires.
+// Lets the request at the undecided place of this index expire if it is late, by which its place leaves the list. The result is the index from which
+// to go on.
 fn expire_next(
     pairs: &mut IndexMap<u64, Tracked>,
     undecided: &mut Vec<u64>,
@@ -167,7 +168,7 @@ fn room_for_one(
 }
 
 impl Tracker {
-    /// No requests, and nothing read.
+    /// A tracker without requests, of a participant that has read nothing.
     pub fn new(alloc: Global) -> Tracker
         ensures pairs { result.pairs ≡ [] }
         ensures cursor { result.cursor ≡ 0 }
@@ -175,7 +176,7 @@ impl Tracker {
         Tracker::at(alloc, 0)
     }
 
-    /// No requests, and so many entries read.
+    /// A tracker without requests, of a participant that has read `cursor` entries.
     pub fn at(alloc: Global, cursor: u64) -> Tracker
         ensures pairs { result.pairs ≡ [] }
         ensures cursor { result.cursor ≡ cursor }
@@ -188,21 +189,21 @@ impl Tracker {
         }
     }
 
-    /// How far the participant has read.
+    /// How many entries the participant has read: the place of the next one.
     pub fn cursor(&self) -> u64
         ensures { result ≡ self.now.cursor }
     {
         self.cursor
     }
 
-    /// The clean place.
+    /// The clean place: the least place of an undecided request, and the cursor where there is none.
     pub fn clean(&self) -> u64
         ensures { result ≡ clean_of self.now.pairs self.now.cursor }
     {
         self.clean
     }
 
-    /// What became of the request at a place, and none exactly where none is tracked there.
+    /// What became of the request at a place, Undecided as long as nothing did. None exactly where none is tracked there.
     pub fn outcome(&self, place: u64) -> Option<Outcome>
         ensures { result ≡ outcome_at self.now.pairs place }
     {
@@ -212,14 +213,14 @@ impl Tracker {
         }
     }
 
-    /// The least place of an undecided request, where its decision time is below the time.
+    /// The least place of an undecided request, where its decision time, in microseconds, is before `time`; else None.
     pub fn first_late(&self, time: u64) -> Option<u64>
         ensures { result ≡ first_late time self.now.pairs }
     {
         late_first(&self.pairs, &self.undecided, time)
     }
 
-    /// One entry more is read.
+    /// Notes that one entry more is read.
     pub fn advance(&mut self)
         requires { self.old.cursor + 1 < 2 ^ 64 }
         ensures cursor { self.new.cursor ≡ self.old.cursor + 1 }
@@ -229,7 +230,7 @@ impl Tracker {
         self.clean = first_or(&self.undecided, self.cursor);
     }
 
-    /// One more request, undecided.
+    /// Tracks one more request, undecided, which stands at `place` and has the decision time `decision`, in microseconds.
     pub fn begin(&mut self, place: u64, decision: u64) -> Result<(), AllocError>
         requires { tracked_at self.old.pairs place ≡ None }
         ensures ok { OnOk result (self.new.pairs ≡ self.old.pairs ++ (place, record { decision = decision; outcome = Undecided }) ∷ []) }
@@ -250,7 +251,7 @@ impl Tracker {
         Ok(())
     }
 
-    /// The request at a place gets the outcome. Nothing changes where none is tracked there.
+    /// Gives the request at a place this outcome. Nothing changes where none is tracked there.
     pub fn settle(&mut self, place: u64, outcome: Outcome)
         ensures pairs { self.new.pairs ≡ settled place outcome self.old.pairs }
         ensures cursor { self.new.cursor ≡ self.old.cursor }
@@ -261,7 +262,7 @@ impl Tracker {
         }
     }
 
-    /// Each undecided request whose decision time is below the time expires.
+    /// Lets each undecided request expire whose decision time is before `time`, in microseconds.
     pub fn expire(&mut self, time: u64)
         ensures pairs { self.new.pairs ≡ expired time self.old.pairs }
         ensures cursor { self.new.cursor ≡ self.old.cursor }

@@ -7,12 +7,13 @@ use Rattle.world_model.specs.Rounds.{Round, Results, Why, RoundAnswers}
 use Rattle.threads_model.specs.Inputs.{submissions_in}
 use Rattle.threads_model.specs.Shared.{SharedPart}
 
--- one round, from one log to another
+-- A round played by so many workers, from the log `before` to the log `after`, with these results. With 0 one thread plays it; with any other number
+-- clients and lanes do. `now` is the round's time.
 abbrev pub PartBy : {F : Type 0} → (workers : ℕ) → Machine → Why F → (now : ℕ) → Round → Results F → (before after : List Entry) → Type 0
 PartBy zero m why now round results before after = PlainPart m why now round results before after
 PartBy (suc others) m why now round results before after = SharedPart m why now round results before after
 
--- rounds, each with as many
+-- Rounds played by so many workers each, from the log `before` to the log `after`. `now` is the time before them.
 abbrev pub RoundsBy : {F : Type 0} → (workers : ℕ) → Machine → Why F → (now : ℕ) → (before : List Entry) → List (RoundAnswers F)
     → (after : List Entry) → Type 0
 RoundsBy workers m why now before [] after = after ≡ before

@@ -1,5 +1,5 @@
 -- What a client hands in, as it is accepted: its names, its references to contracts, and its counts and lengths. Whom it names
--- is said by `parties_in_commands` and `parties_in_drafts`.
+-- is said by `parties_in_commands` and `parties_in_drafts`. `hosts` is the topology of the script.
 use Rattle.std.specs.Prelude.{◌≡◌, ℕ, ◌≤◌, true, List, length, All, MatchOption}
 use Rattle.ledger_terms.specs.Depth.{depth}
 use Rattle.ledger_terms.specs.Drafts.{Drafts}
@@ -33,15 +33,16 @@ use Rattle.script_read.specs.Hosts.{is_participant}
 
 -- ---- names and references
 
--- the name of one of the participants
+-- the name is that of one of the participants
 abbrev pub IsParticipant : List Host → List ℕ → Type 0
 IsParticipant hosts name = is_participant hosts name ≡ true
 
+-- both parts of the name of a template are names; whether there is such a template is not said
 pub record IsTemplate (t : TemplateName) : Type 0 where
   pub «package» : IsName t.«package»
   pub name : IsName t.name
 
--- the seed is that of a command's id of one of the participants
+-- the seed that a prepared tree borrows is that of one of the participants and a command's id, whether there is such a command or not
 pub record IsSeed (hosts : List Host) (s : SeedOf) : Type 0 where
   pub participant : IsParticipant hosts s.participant
   pub command : IsName s.command
@@ -54,7 +55,7 @@ pub record IsLabel (hosts : List Host) (l : Label) : Type 0 where
   pub few : length l.path ≤ MOST_LABEL_STEPS
   pub low : All (λ step. step ≤ MOST_LABEL_STEP) l.path
 
--- the reference is a hash of 32 bytes, or a label
+-- the reference is a hash of 32 bytes, or a label as `IsLabel` has it
 abbrev pub IsReference : List Host → ContractRef → Type 0
 IsReference hosts (Id hash) = length hash ≡ 32
 IsReference hosts (LabelRef l) = IsLabel hosts l
@@ -66,16 +67,20 @@ abbrev pub IsShort : Value → Type 0
 IsShort (Text s) = length s ≤ MOST_TEXT_BYTES
 IsShort v = Unit {0}
 
+-- the argument is a value without too long a text, or a reference to a contract
 abbrev pub IsArg : List Host → Arg → Type 0
 IsArg hosts (Plain v) = IsShort v
 IsArg hosts (Contract r) = IsReference hosts r
 
+-- there are at most `most` arguments or fields, each as `IsArg` has it
 pub record AreArgs (hosts : List Host) (most : ℕ) (args : List Arg) : Type 0 where
   pub few : length args ≤ most
   pub each : All (IsArg hosts) args
 
 -- ---- commands
 
+-- The names of the command's template and choice are names, its reference is as `IsReference` has it, and its fields or arguments are within their
+-- limits.
 abbrev pub IsCommand : List Host → Command → Type 0
 IsCommand hosts (Create template fields) = IsTemplate template × AreArgs hosts MOST_FIELDS fields
 IsCommand hosts (Exercise template contract choice args) =
@@ -90,11 +95,14 @@ pub record AreCommands (hosts : List Host) (commands : List Command) : Type 0 wh
 
 -- ---- prepared trees
 
+-- the input of a draft is a reference, or forged: with an id or none, a salt of 32 bytes, the name of a template, and fields
 abbrev pub IsInput : List Host → Input → Type 0
 IsInput hosts (Known r) = IsReference hosts r
 IsInput hosts (Forged id salt template fields) =
     MatchOption id Unit (IsReference hosts) × (length salt ≡ 32) × IsTemplate template × AreArgs hosts MOST_FIELDS fields
 
+-- The names of the drafted action, its input, its arguments and its result are as the definitions above have them. Its actors and its children are
+-- not looked at here.
 abbrev pub IsDraft : List Host → DraftAction → Type 0
 IsDraft hosts (DraftCreate template fields) = IsTemplate template × AreArgs hosts MOST_FIELDS fields
 IsDraft hosts (DraftExercise input choice args actors consuming result) =
@@ -112,6 +120,7 @@ pub record AreDrafts (hosts : List Host) (drafts : Drafts) : Type 0 where
 
 -- ---- what a submission asks for
 
+-- what a submission asks for is commands as `AreCommands` has them, or a prepared tree as `AreDrafts` has it, with a borrowed seed or none
 abbrev pub IsWhat : List Host → What → Type 0
 IsWhat hosts (Commands commands) = AreCommands hosts commands
 IsWhat hosts (Prepared seed_of roots) = MatchOption seed_of Unit (IsSeed hosts) × AreDrafts hosts roots

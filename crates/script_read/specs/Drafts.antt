@@ -1,4 +1,6 @@
--- Prepared trees: drafts of actions, each with its children.
+-- Prepared trees: drafts of actions, each with its children. `hosts` is the topology, `at` the place of the JSON value `d` that is read. A fault Shape
+-- says that a value has another form than it should or that a member is absent. An input is the contract that a draft uses: one that is known, or
+-- a forged one, whose parts are handed in as they are.
 use Rattle.std.specs.Prelude.{ℕ, ◌+◌, Bool, ◌||◌, List, [], ◌∷◌, Option, Some, None, if◌then◌else◌, Result, Ok, Err, codes, ⊤}
 use Rattle.std.specs.Ordering.{nat_cmp, match_ordering}
 use Rattle.std.specs.Cmp.Lexicographic.{slice_cmp}
@@ -27,19 +29,21 @@ use Rattle.script_read.specs.Commands.{reference_in, has_create_members, is_crea
 
 -- ---- inputs
 
--- `{"known": ..}`
+-- whether an input is a known contract: an object `{"known": ..}` with that member alone
 unfoldable pub is_known : Data → Bool
 is_known d = has_members (codes "known" ∷ []) [] d
 
+-- whether a value is an object with just the members of a forged input
 unfoldable pub has_forged_members : Data → Bool
 has_forged_members d = has_members (codes "id" ∷ codes "salt" ∷ codes "instance" ∷ []) [] d
 
+-- the id of a forged input where it is no null: a reference, as a Some
 unfoldable pub some_id_of : List Host → Place → Data → Result (Option ContractRef) WalkFault
 some_id_of hosts at d = do
   reference ← reference_of hosts at d
   Ok (Some reference)
 
--- a reference, or null
+-- the id of a forged input: a reference, or None for null, which stands for the hash of salt and instance
 unfoldable pub id_of : List Host → Place → Data → Result (Option ContractRef) WalkFault
 id_of hosts at null = Ok None
 id_of hosts at (boolean b) = some_id_of hosts at (boolean b)
@@ -48,16 +52,19 @@ id_of hosts at (string s) = some_id_of hosts at (string s)
 id_of hosts at (array ds) = some_id_of hosts at (array ds)
 id_of hosts at (object ms) = some_id_of hosts at (object ms)
 
+-- the id in the member `id` of a forged input, None for null; Shape where that member is absent
 unfoldable pub id_in : List Host → Place → Data → Result (Option ContractRef) WalkFault
 id_in hosts at d = do
   m ← member_of at (codes "id") d
   id_of hosts (at_member at (codes "id")) m
 
+-- the salt in the member `salt` of a forged input: 32 bytes
 unfoldable pub salt_in : Place → Data → Result (List ℕ) WalkFault
 salt_in at d = do
   m ← member_of at (codes "salt") d
   hash_of (at_member at (codes "salt")) m
 
+-- the name of a template and the fields that an object with the members `template` and `fields` spells; of a forged instance or a drafted Create
 unfoldable pub instance_of : List Host → Place → Data → Result (TemplateName × List Arg) WalkFault
 instance_of hosts at d = do
   _ ← check (has_create_members d) (Shape at)
@@ -65,11 +72,13 @@ instance_of hosts at d = do
   fields ← args_in hosts at (codes "fields") FIELDS d
   Ok (template, fields)
 
+-- the name of a template and the fields in the member `instance` of a forged input
 unfoldable pub instance_in : List Host → Place → Data → Result (TemplateName × List Arg) WalkFault
 instance_in hosts at d = do
   m ← member_of at (codes "instance") d
   instance_of hosts (at_member at (codes "instance")) m
 
+-- the input whose id, salt and instance are handed in as they are; Shape where an object has other members
 unfoldable pub forged_of : List Host → Place → Data → Result Input WalkFault
 forged_of hosts at d = do
   _ ← check (has_forged_members d) (Shape at)
@@ -78,14 +87,17 @@ forged_of hosts at d = do
   parts ← instance_in hosts at d
   Ok (input.Forged id salt parts.0 parts.1)
 
+-- the input that is a known contract, by the reference in the member `known`
 unfoldable pub known_of : List Host → Place → Data → Result Input WalkFault
 known_of hosts at d = do
   reference ← reference_in hosts at (codes "known") d
   Ok (input.Known reference)
 
+-- the input that an object spells, a known contract or a forged one
 unfoldable pub input_of : List Host → Place → Data → Result Input WalkFault
 input_of hosts at d = if is_known d then known_of hosts at d else forged_of hosts at d
 
+-- the input in the member `contract` of a draft
 unfoldable pub input_in : List Host → Place → Data → Result Input WalkFault
 input_in hosts at d = do
   m ← member_of at (codes "contract") d
@@ -93,28 +105,33 @@ input_in hosts at d = do
 
 -- ---- drafts without children
 
+-- the set of parties in the member `actors` of a draft, all of the topology
 unfoldable pub actors_in : List Host → Place → Data → Result (List (List ℕ)) WalkFault
 actors_in hosts at d = do
   m ← member_of at (codes "actors") d
   parties_of hosts (at_member at (codes "actors")) m
 
+-- the result in the member `result` of a drafted Exercise
 unfoldable pub result_in : List Host → Place → Data → Result Arg WalkFault
 result_in hosts at d = do
   m ← member_of at (codes "result") d
   arg_of hosts (at_member at (codes "result")) m
 
--- a tree of one action
+-- a forest of one draft, without children
 abbrev pub alone : DraftAction → Drafts
 alone a = Root a NoRoots NoRoots
 
+-- the draft of a Create, alone, of the object in `{"create": ..}`
 unfoldable pub create_draft_of : List Host → Place → Data → Result Drafts WalkFault
 create_draft_of hosts at d = do
   parts ← instance_of hosts at d
   Ok (alone (DraftCreate parts.0 parts.1))
 
+-- whether a value is an object with just the members of a drafted Fetch
 unfoldable pub has_fetch_members : Data → Bool
 has_fetch_members d = has_members (codes "contract" ∷ codes "actors" ∷ []) [] d
 
+-- the draft of a Fetch, alone, of the object in `{"fetch": ..}`
 unfoldable pub fetch_draft_of : List Host → Place → Data → Result Drafts WalkFault
 fetch_draft_of hosts at d = do
   _ ← check (has_fetch_members d) (Shape at)
@@ -122,14 +139,17 @@ fetch_draft_of hosts at d = do
   actors ← actors_in hosts at d
   Ok (alone (DraftFetch contract actors))
 
+-- whether a draft is a Fetch: an object with the member `fetch` alone
 unfoldable pub is_fetch : Data → Bool
 is_fetch d = has_members (codes "fetch" ∷ []) [] d
 
+-- the draft of a Create, alone, in the member `create` of a draft
 unfoldable pub create_draft_in : List Host → Place → Data → Result Drafts WalkFault
 create_draft_in hosts at d = do
   m ← member_of at (codes "create") d
   create_draft_of hosts (at_member at (codes "create")) m
 
+-- the draft of a Fetch, alone, in the member `fetch` of a draft
 unfoldable pub fetch_draft_in : List Host → Place → Data → Result Drafts WalkFault
 fetch_draft_in hosts at d = do
   m ← member_of at (codes "fetch") d
@@ -137,11 +157,12 @@ fetch_draft_in hosts at d = do
 
 -- ---- an exercise but for its children
 
+-- whether a value is an object with just the members of a drafted Exercise
 unfoldable pub has_draft_members : Data → Bool
 has_draft_members d =
     has_members (codes "contract" ∷ codes "choice" ∷ codes "args" ∷ codes "actors" ∷ codes "consuming" ∷ codes "result" ∷ codes "children" ∷ []) [] d
 
--- the contract, the choice and its arguments
+-- the first three parts of a drafted Exercise: its input, the name of its choice, and the arguments
 unfoldable pub call_of : List Host → Place → Data → Result (Input × List ℕ × List Arg) WalkFault
 call_of hosts at d = do
   contract ← input_in hosts at d
@@ -149,7 +170,7 @@ call_of hosts at d = do
   args ← args_in hosts at (codes "args") PARAMETERS d
   Ok (contract, choice, args)
 
--- the actors, whether it consumes, and the result
+-- the other three parts of a drafted Exercise: its actors, whether it consumes, and its result
 unfoldable pub effect_of : List Host → Place → Data → Result (List (List ℕ) × Bool × Arg) WalkFault
 effect_of hosts at d = do
   actors ← actors_in hosts at d
@@ -157,6 +178,7 @@ effect_of hosts at d = do
   result ← result_in hosts at d
   Ok (actors, consuming, result)
 
+-- the draft of an Exercise without its children, of the object in `{"exercise": ..}`
 unfoldable pub exercise_draft_of : List Host → Place → Data → Result DraftAction WalkFault
 exercise_draft_of hosts at d = do
   _ ← check (has_draft_members d) (Shape at)
@@ -166,21 +188,24 @@ exercise_draft_of hosts at d = do
 
 -- ---- trees
 
--- the object has one member, of the three that there are
+-- whether a value is an object with one member, `create`, `exercise` or `fetch`
 unfoldable pub is_draft : Data → Bool
 is_draft d = is_create d || (is_exercise d || is_fetch d)
 
--- A fault at this place, where the depth breaks its limit. The first draft that does stands one deeper than the limit.
+-- Nothing where a draft at this depth, 1 for a root, keeps the limit on depth, else the fault Limit. The first that does not stands one deeper than
+-- the limit.
 abbrev pub within_tree : Place → ℕ → Result ⊤ WalkFault
 within_tree at depth = within_limit at DRAFT_DEPTH depth
 
--- a draft without children
+-- the draft of an object that is a Create or a Fetch, alone
 unfoldable pub leaf_of : List Host → Place → Data → Result Drafts WalkFault
 leaf_of hosts at d = if is_create d then create_draft_in hosts at d else fetch_draft_in hosts at d
 
--- Each reading takes the number of drafts in the lists so far, and gives that number after it.
+-- Each of these takes `depth`, how deep its drafts stand, and `n`, the number of items of all lists of drafts that were begun so far. Beside the
+-- forest that it reads it gives that number after it.
 abbrev mutual
-  -- a draft at a depth
+  -- the draft that a value spells, with all below it, and the count after it: Shape where it has not the form of one, then Limit where it stands
+  -- too deep, then a fault inside
   pub draft_of : List Host → Place → ℕ → ℕ → Data → Result (Drafts × ℕ) WalkFault
   draft_of hosts at depth n (object ms) =
       check (is_draft (object ms)) (Shape at)
@@ -194,7 +219,7 @@ abbrev mutual
   draft_of hosts at depth n (string s) = Err (Shape at)
   draft_of hosts at depth n (array ds) = Err (Shape at)
 
-  -- the member `exercise`, looked up as `get` does
+  -- the Exercise in the first member `exercise` of an object at the place `at`, with all below it, and the count after it
   pub exercise_member : List Host → Place → ℕ → ℕ → Members → Result (Drafts × ℕ) WalkFault
   exercise_member hosts at depth n no_members = Err (Shape at)
   exercise_member hosts at depth n (member k d ms) =
@@ -203,7 +228,7 @@ abbrev mutual
       (node_of hosts (at_member at (codes "exercise")) depth n d)
       (exercise_member hosts at depth n ms)
 
-  -- an exercise with its children
+  -- the Exercise of the object in `{"exercise": ..}`, with all below it, and the count after it
   pub node_of : List Host → Place → ℕ → ℕ → Data → Result (Drafts × ℕ) WalkFault
   node_of hosts at depth n (object ms) =
       exercise_draft_of hosts at (object ms)
@@ -215,7 +240,7 @@ abbrev mutual
   node_of hosts at depth n (string s) = Err (Shape at)
   node_of hosts at depth n (array ds) = Err (Shape at)
 
-  -- the member `children`, looked up as `get` does
+  -- the drafts in the first member `children` of a drafted Exercise that stands at `depth`, and so one deeper, and the count after them
   pub children_member : List Host → Place → ℕ → ℕ → Members → Result (Drafts × ℕ) WalkFault
   children_member hosts at depth n no_members = Err (Shape at)
   children_member hosts at depth n (member k d ms) =
@@ -224,7 +249,8 @@ abbrev mutual
       (tree_of hosts (at_member at (codes "children")) (depth + 1) n d)
       (children_member hosts at depth n ms)
 
-  -- the drafts of a list, which stand at a depth
+  -- the drafts of a list, all at `depth`, with all below them, and the count after them: the list's length is counted, and the limit tried, before
+  -- its items are read
   pub tree_of : List Host → Place → ℕ → ℕ → Data → Result (Drafts × ℕ) WalkFault
   tree_of hosts at depth n (array ds) =
       within_limit at DRAFTS (n + item_count ds)
@@ -235,7 +261,8 @@ abbrev mutual
   tree_of hosts at depth n (string s) = Err (Shape at)
   tree_of hosts at depth n (object ms) = Err (Shape at)
 
-  -- the drafts from the i-th item on, behind those before
+  -- Reads the items of a list of drafts, of which the first is item i. `before` has the drafts before them and the count so far, and the result has
+  -- both with these.
   pub drafts_from : List Host → Place → ℕ → ℕ → Drafts × ℕ → Items → Result (Drafts × ℕ) WalkFault
   drafts_from hosts at depth i before no_items = Ok before
   drafts_from hosts at depth i before (item d ds) =

@@ -5,6 +5,7 @@ use Rattle.json_walk.specs.declared.walk_fault.WalkFault.TheVariants as walk
 use Rattle.script_read.specs.declared.script_fault.ScriptFault.{ScriptFault}
 use Rattle.script_read.specs.declared.script_fault.ScriptFault.TheVariants.{NotJson, Shape, NotInteger, Unknown, Package, Limit, Repeated, Memory}
 
+-- the word for a fault, as the line of a refused script has it
 abbrev pub fault_name : ScriptFault → List ℕ
 fault_name NotJson = codes "NotJson"
 fault_name (Shape path) = codes "Shape"
@@ -15,6 +16,8 @@ fault_name (Limit path which found) = codes "Limit"
 fault_name (Repeated path) = codes "Repeated"
 fault_name Memory = codes "Memory"
 
+-- the place of a fault in the script, as a JSON pointer; None of bytes that are no JSON, of want of memory, and of a fault of the packages, whose
+-- place is told with it
 abbrev pub fault_path : ScriptFault → Option (List ℕ)
 fault_path NotJson = None
 fault_path (Shape path) = Some path
@@ -25,7 +28,7 @@ fault_path (Limit path which found) = Some path
 fault_path (Repeated path) = Some path
 fault_path Memory = None
 
--- a fault of a walk as one of a script
+-- a fault of a walk through JSON as the fault of a script that it is
 abbrev pub script_fault : WalkFault → ScriptFault
 script_fault walk.NotJson = NotJson
 script_fault (walk.Shape path) = Shape path
@@ -35,7 +38,7 @@ script_fault (walk.Limit path which found) = Limit path which found
 script_fault (walk.Repeated path) = Repeated path
 script_fault walk.Memory = Memory
 
--- what a walk gave, with its fault as one of a script
+-- the result of a walk through JSON, with its fault as the fault of a script that it is
 abbrev pub from_walk : {A : Type 0} → Result A WalkFault → Result A ScriptFault
 from_walk (Ok a) = Ok a
 from_walk (Err e) = Err (script_fault e)

@@ -20,21 +20,24 @@ use Rattle.script_read.specs.PackageLimits.{AreAccepted}
 use Rattle.script_read.specs.declared.round.Round.{Round}
 use Rattle.script_read.specs.declared.script.Script.{Script}
 
+-- The rule is within its limit and names a participant of the topology, and a party for which somebody confirms.
 pub record IsRule (hosts : List Host) (rule : Rule) : Type 0 where
   pub short : length rule.name ≤ MOST_RULE_NAME_BYTES
   pub participant : rule.participant < length hosts
   pub hosted : is_hosted hosts rule.party ≡ true
 
--- at most 16 rules with names of their own
+-- The rules are at most 16, each is as `IsRule` has it, and no two have the same name.
 pub record AreRules (hosts : List Host) (rules : List Rule) : Type 0 where
   pub few : length rules ≤ MOST_RULES
   pub each : All (IsRule hosts) rules
   pub named : AreNamed rules
 
--- the id is kept for no rule of the participant
+-- the command's id is kept for no rule of the participant
 abbrev pub IsOwn : List Rule → (participant : ℕ) → (command : List ℕ) → Type 0
 IsOwn rules participant command = is_rule_command rules participant command ≡ false
 
+-- The submission names a participant of the topology and parties for which somebody confirms, its command is kept for no rule, and its counts and
+-- times are within their limits.
 pub record IsSubmission (hosts : List Host) (rules : List Rule) (s : Submission) : Type 0 where
   pub participant : s.participant < length hosts
   pub command : IsName s.command
@@ -45,11 +48,12 @@ pub record IsSubmission (hosts : List Host) (rules : List Rule) (s : Submission)
   pub time : MatchOption s.ledger_time Unit (λ t. t ≤ MOST_LEDGER_TIME)
   pub what : IsWhat hosts s.what
 
+-- the envelope is addressed to a participant of the topology, and its bytes are within their limit
 pub record IsRawEnvelope (hosts : List Host) (e : RawEnvelope) : Type 0 where
   pub to : e.to < length hosts
   pub few : length e.bytes ≤ MOST_RAW_BYTES
 
--- a raw request names participants that there are, and its bytes are few
+-- The raw request names participants of the topology, its command is kept for no rule of its sender, and its bytes are within their limit.
 pub record IsRaw (hosts : List Host) (rules : List Rule) (r : RawRequest) : Type 0 where
   pub participant : r.participant < length hosts
   pub command : IsName r.command
@@ -58,6 +62,8 @@ pub record IsRaw (hosts : List Host) (rules : List Rule) (r : RawRequest) : Type
   pub mediator : length r.mediator ≤ MOST_RAW_BYTES
   pub envelopes : All (IsRawEnvelope hosts) r.envelopes
 
+-- The round moves the time within its limit, its paused and its restarting participants are of the topology, and its submissions and its raw
+-- requests, at most 64, are as `IsSubmission` and `IsRaw` have them.
 pub record IsRound (hosts : List Host) (rules : List Rule) (r : Round) : Type 0 where
   pub advance : r.advance ≤ MOST_ADVANCE
   pub paused : All (λ p. p < length hosts) r.paused
@@ -66,14 +72,14 @@ pub record IsRound (hosts : List Host) (rules : List Rule) (r : Round) : Type 0 
   pub raws : All (IsRaw hosts rules) r.raws
   pub restarts : All (λ p. p < length hosts) r.restarts
 
--- at most 2,048 rounds with at most 2,048 submissions in all
+-- a script has at most 2,048 rounds with at most 2,048 submissions in all, each as `IsRound` has it
 pub record AreRounds (s : Script) : Type 0 where
   pub few : length s.rounds ≤ MOST_ROUNDS
   pub submits : sum_by (λ (r : Round). length r.submits) s.rounds ≤ MOST_SUBMISSIONS
   pub each : All (IsRound (s.topology).hosts s.triggers) s.rounds
 
--- A script that is accepted: a synchroniser can be made for its topology, and its packages, rules and rounds are within their
--- limits and name only parties and participants of it.
+-- A script that is accepted: a synchroniser can be made for its topology, and its packages, rules and rounds are within their limits and name only
+-- parties and participants of it.
 pub record IsAccepted (s : Script) : Type 0 where
   pub topology : IsValid s.topology
   pub packages : AreAccepted (s.topology).hosts s.checked

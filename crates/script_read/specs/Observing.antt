@@ -1,4 +1,5 @@
--- What the participants observe: parties for which another participant confirms.
+-- What the participants observe: parties for which another participant confirms. `hosts` are all participants, `own` the parties for which the one
+-- that is read confirms, `at` is the place of the JSON value `d` that is read.
 use Rattle.std.specs.Prelude.{ℕ, ◌||◌, not, List, [], ◌∷◌, ◌++◌, Option, Some, None, slice_get, Result, Ok, codes}
 use Rattle.serde_json.specs.Data.{Data}
 use Rattle.serde_json.specs.Find.{get}
@@ -14,17 +15,19 @@ use Rattle.json_walk.specs.declared.walk_fault.WalkFault.TheVariants.{Repeated, 
 
 -- ---- names, whatever they name
 
--- the names of a list, and none where the member is absent
+-- the names of a list at the place `at`, in order; None, where the member is absent, gives none
 abbrev pub observing_names_if : Place → Option Data → Result (List (List ℕ)) WalkFault
 observing_names_if at None = Ok []
 observing_names_if at (Some d) = list_of name_of at d
 
+-- the names in the member `observing` of a participant, none where it is absent, before it can be told whether they are those of parties
 unfoldable pub observing_names_in : Place → Data → Result (List (List ℕ)) WalkFault
 observing_names_in at d = observing_names_if (at_member at (codes "observing")) (get (codes "observing") d)
 
 -- ---- parties, once all participants are known
 
--- one more party, for which some participant confirms, and which is neither one of the participant's own nor observed before
+-- Puts the party that a value names behind `before`, those that the participant observes so far. Unknown where nobody confirms for it, Repeated
+-- where it is one of the participant's own or stands in `before`.
 unfoldable pub observed_party : List Host → List (List ℕ) → Place → List (List ℕ) → Data → Result (List (List ℕ)) WalkFault
 observed_party hosts own at before d = do
   name ← name_of at d
@@ -32,40 +35,45 @@ observed_party hosts own at before d = do
   _ ← check (not (has_party own name || has_party before name)) (Repeated at)
   Ok (before ++ name ∷ [])
 
+-- One step of a walk through the list at the place `at`: `observed_party` for the item `d` at index i.
 abbrev pub observed_step : List Host → List (List ℕ) → Place → ℕ → List (List ℕ) → Data → Result (List (List ℕ)) WalkFault
 observed_step hosts own at i before d = observed_party hosts own (at_item at i) before d
 
--- the parties of a list of any length
+-- the parties that a list of any length names, in its order, or the first fault
 unfoldable pub observed_of : List Host → List (List ℕ) → Place → Data → Result (List (List ℕ)) WalkFault
 observed_of hosts own at d = do
   items ← items_of at d
   walk_items (observed_step hosts own at) 0 [] items
 
+-- the parties that a participant observes, as its member at the place `at` names them; None, where that is absent, gives none
 abbrev pub observed_if : List Host → List (List ℕ) → Place → Option Data → Result (List (List ℕ)) WalkFault
 observed_if hosts own at None = Ok []
 observed_if hosts own at (Some d) = observed_of hosts own at d
 
+-- the parties in the member `observing` of a participant, none where that is absent
 unfoldable pub observed_in : List Host → List (List ℕ) → Place → Data → Result (List (List ℕ)) WalkFault
 observed_in hosts own at d = observed_if hosts own (at_member at (codes "observing")) (get (codes "observing") d)
 
 -- ---- participants
 
--- a participant with what it observes, but for what it has vetted
+-- the participant `host` with what it observes, as the value `d` tells that; what it has vetted is left empty
 unfoldable pub observing_host : List Host → Host → Place → Data → Result Host WalkFault
 observing_host hosts host at d = do
   observed ← observed_in hosts host.parties at d
   Ok (record { name = host.name; parties = host.parties; observing = set_of observed; vetted = [] })
 
--- behind others, a participant with what it observes
+-- Puts a participant with what it observes behind `before`. None is of a value without a participant, which never comes, and leaves `before` as it
+-- is.
 abbrev pub with_observing : List Host → Place → List Host → Option Host → Data → Result (List Host) WalkFault
 with_observing hosts at before None d = Ok before
 with_observing hosts at before (Some host) d = observing_host hosts host at d >>= (λ one. Ok (before ++ one ∷ []))
 
--- the i-th participant with what it observes
+-- One step of the second walk through the participants, a list at the place `at`: puts the one at index i, with what it observes, behind `before`.
 abbrev pub observing_step : List Host → Place → ℕ → List Host → Data → Result (List Host) WalkFault
 observing_step hosts at i before d = with_observing hosts (at_item at i) before (slice_get hosts i) d
 
--- the participants with what they observe, in a second walk
+-- The participants with what they observe, in a second walk through the list at the place `at`: only when all of them are known can be told who
+-- confirms for a party.
 unfoldable pub observing_of : List Host → Place → Data → Result (List Host) WalkFault
 observing_of hosts at d = do
   items ← items_of at d

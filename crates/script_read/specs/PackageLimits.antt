@@ -17,7 +17,7 @@ use Rattle.script_read.specs.Accepted.{IsShort}
 -- ---- expressions
 
 abbrev mutual
-  -- how deep an expression is
+  -- how deep an expression is: 1 for a value or a bound name, and else one more than its deepest operand
   pub expr_depth : ExprForm → ℕ
   expr_depth (Literal v) = 1
   expr_depth (Var x) = 1
@@ -36,12 +36,13 @@ abbrev mutual
   expr_depth (Union a b) = suc (max (expr_depth a) (expr_depth b))
   expr_depth (Has a b) = suc (max (expr_depth a) (expr_depth b))
 
+  -- the depth of the deepest of some expressions, 0 for none
   pub exprs_depth : ExprForms → ℕ
   exprs_depth NoExprs = 0
   exprs_depth (MoreExprs e es) = max (expr_depth e) (exprs_depth es)
 
 abbrev mutual
-  -- the values that stand in an expression
+  -- the values that stand in an expression, in order
   pub literals_in : ExprForm → List Value
   literals_in (Literal v) = v ∷ []
   literals_in (Var x) = []
@@ -60,10 +61,12 @@ abbrev mutual
   literals_in (Union a b) = literals_in a ++ literals_in b
   literals_in (Has a b) = literals_in a ++ literals_in b
 
+  -- the values that stand in some expressions, in order
   pub literals_among : ExprForms → List Value
   literals_among NoExprs = []
   literals_among (MoreExprs e es) = literals_in e ++ literals_among es
 
+-- the expression keeps the limit on depth, and each text in it the limit on its bytes
 pub record IsSmallExpr (e : ExprForm) : Type 0 where
   pub shallow : expr_depth e ≤ MOST_EXPRESSION_DEPTH
   pub short : All IsShort (literals_in e)
@@ -71,7 +74,7 @@ pub record IsSmallExpr (e : ExprForm) : Type 0 where
 -- ---- statements
 
 abbrev mutual
-  -- how many statements there are, with those inside a `when`
+  -- how many statements a statement is, with those inside a `when`
   pub stmt_size : StmtForm → ℕ
   stmt_size (When e first second) = suc (stmts_size first + stmts_size second)
   stmt_size (Bind x e) = 1
@@ -80,16 +83,18 @@ abbrev mutual
   stmt_size (Exercise x t e choice args) = 1
   stmt_size (Fetch x t e) = 1
 
+  -- how many statements there are in a list of them, with those inside a `when`
   pub stmts_size : StmtForms → ℕ
   stmts_size NoStmts = 0
   stmts_size (MoreStmts s ss) = stmt_size s + stmts_size ss
 
+-- expressions as a list of the kit
 abbrev pub listed : ExprForms → List ExprForm
 listed NoExprs = []
 listed (MoreExprs e es) = e ∷ listed es
 
 abbrev mutual
-  -- the expressions that stand in a statement
+  -- the whole expressions that stand in a statement, with those inside a `when`, but not their operands
   pub exprs_in_stmt : StmtForm → List ExprForm
   exprs_in_stmt (Bind x e) = e ∷ []
   exprs_in_stmt (Assert e) = e ∷ []
@@ -98,36 +103,41 @@ abbrev mutual
   exprs_in_stmt (Fetch x t e) = e ∷ []
   exprs_in_stmt (When e first second) = e ∷ (exprs_in_stmts first ++ exprs_in_stmts second)
 
+  -- the whole expressions that stand in some statements, with those inside a `when`
   pub exprs_in_stmts : StmtForms → List ExprForm
   exprs_in_stmts NoStmts = []
   exprs_in_stmts (MoreStmts s ss) = exprs_in_stmt s ++ exprs_in_stmts ss
 
 -- ---- packages
 
+-- the whole expressions that stand in a choice: controllers, observers, result, and those of its body
 abbrev pub exprs_in_choice : ChoiceForm → List ExprForm
 exprs_in_choice c = c.controllers ∷ (c.observers ∷ (c.result ∷ exprs_in_stmts c.body))
 
+-- the choice keeps the limits on its parameters, its statements and its expressions
 pub record IsSmallChoice (c : ChoiceForm) : Type 0 where
   pub params : length c.params ≤ MOST_PARAMETERS
   pub body : stmts_size c.body ≤ MOST_STATEMENTS
   pub exprs : All IsSmallExpr (exprs_in_choice c)
 
+-- the whole expressions that stand in a template, but not in its choices: `ensure`, signatories and observers
 abbrev pub exprs_in_template : TemplateForm → List ExprForm
 exprs_in_template t = t.ensure ∷ (t.signatories ∷ (t.observers ∷ []))
 
+-- the template keeps the limits on its fields, its choices and its expressions, and each of its choices keeps its own
 pub record IsSmallTemplate (t : TemplateForm) : Type 0 where
   pub fields : length t.fields ≤ MOST_FIELDS
   pub few_choices : length t.choices ≤ MOST_CHOICES
   pub choices : All IsSmallChoice t.choices
   pub exprs : All IsSmallExpr (exprs_in_template t)
 
--- at most 8 packages with at most 64 templates in all
+-- there are at most 8 packages with at most 64 templates in all, each as `IsSmallTemplate` has it
 pub record AreSmall (packages : Packages) : Type 0 where
   pub few : length packages ≤ MOST_PACKAGES
   pub few_templates : sum_by (λ (p : PackageForm). length p.templates) packages ≤ MOST_TEMPLATES
   pub templates : All (λ (p : PackageForm). All IsSmallTemplate p.templates) packages
 
--- They are packages within the limits with what is built in, and name no party but those for which somebody confirms.
+-- The packages are some `given` ones within the limits, with what is built in, and name no party but those for which somebody of `hosts` confirms.
 pub record AreAccepted (hosts : List Host) (packages : Packages) : Type 0 where
   pub given : Packages
   pub built_in : packages ≡ checked_packages given

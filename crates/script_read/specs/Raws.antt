@@ -1,4 +1,5 @@
--- Raw requests, as a client hands them in.
+-- Raw requests, as a client hands them in. `hosts` is the topology, `rules` are the rules of the script, `at` is the place of the JSON value `d` that is
+-- read. A fault Shape says that a value has another form than it should or that a member is absent. Participants are indices in the topology.
 use Rattle.std.specs.Prelude.{ℕ, Bool, List, [], ◌∷◌, length, Option, Some, None, Result, Ok, ok_or, codes}
 use Rattle.std.specs.Result.{result_ok}
 use Rattle.hex.specs.Hex.{decode_of}
@@ -20,11 +21,11 @@ use Rattle.trigger_rules.specs.declared.rule.Rule.{Rule}
 
 -- ---- bytes
 
--- two hexadecimal digits of either case for each byte
+-- the bytes that a text spells, two hexadecimal digits of either case for each; None where it has another character or an odd number of them
 abbrev pub bytes_named : List ℕ → Option (List ℕ)
 bytes_named s = result_ok (decode_of s)
 
--- the bytes that a text spells, which have to keep their limit
+-- the bytes that a text spells: Shape where it is no text of pairs of hexadecimal digits, Limit where there are too many bytes
 unfoldable pub bytes_of : Place → Data → Result (List ℕ) WalkFault
 bytes_of at d = do
   s ← ok_or (as_str d) (Shape at)
@@ -34,7 +35,7 @@ bytes_of at d = do
 
 -- ---- envelopes
 
--- an envelope as a list of a participant's name and the bytes for it
+-- the envelope that a list of a participant's name and of bytes spells
 unfoldable pub envelope_of : List Host → Place → Data → Result RawEnvelope WalkFault
 envelope_of hosts at d = do
   items ← items_of at d
@@ -43,6 +44,7 @@ envelope_of hosts at d = do
   bytes ← bytes_of (at_item at 1) two.1
   Ok (record { to = to; bytes = bytes })
 
+-- the envelopes in the member `envelopes` of a raw request, in order and however many
 unfoldable pub envelopes_in : List Host → Place → Data → Result (List RawEnvelope) WalkFault
 envelopes_in hosts at d = do
   m ← member_of at (codes "envelopes") d
@@ -50,21 +52,24 @@ envelopes_in hosts at d = do
 
 -- ---- requests
 
--- names of participants, which may repeat, in any order
+-- the participants in the member `confirming` of a raw request, who are said to be asked: in any order, and one may stand more than once
 unfoldable pub confirming_in : List Host → Place → Data → Result (List ℕ) WalkFault
 confirming_in hosts at d = do
   m ← member_of at (codes "confirming") d
   list_of (participant_of hosts) (at_member at (codes "confirming")) m
 
+-- the mediator's bytes, in the member `mediator` of a raw request
 unfoldable pub mediator_in : Place → Data → Result (List ℕ) WalkFault
 mediator_in at d = do
   m ← member_of at (codes "mediator") d
   bytes_of (at_member at (codes "mediator")) m
 
+-- whether a value is an object with just the members of a raw request
 unfoldable pub has_raw_members : Data → Bool
 has_raw_members d =
     has_members (codes "participant" ∷ codes "command" ∷ codes "confirming" ∷ codes "mediator" ∷ codes "envelopes" ∷ []) [] d
 
+-- the raw request that a value spells, or the first fault; Repeated where its command's id is kept for a rule of its participant
 unfoldable pub raw_of : List Host → List Rule → Place → Data → Result RawRequest WalkFault
 raw_of hosts rules at d = do
   _ ← check (has_raw_members d) (Shape at)
@@ -75,10 +80,11 @@ raw_of hosts rules at d = do
   envelopes ← envelopes_in hosts at d
   Ok (record { participant = participant; command = command; confirming = confirming; mediator = mediator; envelopes = envelopes })
 
--- the raw requests of a list, and none where the member is absent
+-- the raw requests of a list at the place `at`, in order; None, where the member is absent, gives none, and too many are Limit
 abbrev pub raws_if : List Host → List Rule → Place → Option Data → Result (List RawRequest) WalkFault
 raws_if hosts rules at None = Ok []
 raws_if hosts rules at (Some d) = few_of (raw_of hosts rules) at RAWS d
 
+-- the raw requests in the member `raw` of a round, none where it is absent
 unfoldable pub raws_in : List Host → List Rule → Place → Data → Result (List RawRequest) WalkFault
 raws_in hosts rules at d = raws_if hosts rules (at_member at (codes "raw")) (get (codes "raw") d)

@@ -1,4 +1,4 @@
--- Scripts: the first fault of the walk, or the script.
+-- Scripts: the script that bytes spell, or its first fault. `d` is the JSON value of the script, but for one package of it in `counted_package`.
 use Rattle.std.specs.Prelude.{ℕ, ◌+◌, Bool, List, [], ◌∷◌, length, Option, Some, None, Result, Ok, Err, codes}
 use Rattle.serde_json.specs.Data.{Data}
 use Rattle.serde_json.specs.Find.{get}
@@ -24,28 +24,31 @@ use Rattle.script_read.specs.declared.script.Script.{Script}
 
 -- ---- packages
 
--- a package, and how many templates there are with its own
+-- the package at the place `at`, and how many templates there are with its own, where the packages before it have `before` templates
 unfoldable pub counted_package : List Host → ℕ → Place → Data → Result (PackageForm × ℕ) WalkFault
 counted_package hosts before at d = do
   one ← package_of hosts before at d
   Ok (one, before + length one.templates)
 
+-- the packages of a list at the place `at`, in order, and how many templates they have in all; None, where the member is absent, gives no package
 abbrev pub packages_if : List Host → Place → Option Data → Result (List PackageForm × ℕ) WalkFault
 packages_if hosts at None = Ok ([], 0)
 packages_if hosts at (Some d) = counted_of (counted_package hosts) at PACKAGES d
 
+-- the packages in the member `packages` of a script, none where it is absent, as they are read and before they are checked
 unfoldable pub packages_in : List Host → Data → Result (List PackageForm) WalkFault
 packages_in hosts d = packages_if hosts (at_member [] (codes "packages")) (get (codes "packages") d) >>= (λ s. Ok s.0)
 
--- a fault of the check, as a script's
+-- the result of a check of packages, with its fault as the fault Package of a script
 abbrev pub as_package : Result (List PackageForm) CheckFault → Result (List PackageForm) ScriptFault
 as_package (Ok packages) = Ok packages
 as_package (Err fault) = Err (Package fault)
 
--- the packages with what is built in, once they are checked
+-- the packages with what is built in, where they pass the check of kinds and names; else the fault Package
 unfoldable pub checked_of : List PackageForm → Result (List PackageForm) ScriptFault
 checked_of packages = as_package (checked_or_fault packages)
 
+-- the checked packages of a script with what is built in, or its packages' first fault
 unfoldable pub checked_in : List Host → Data → Result (List PackageForm) ScriptFault
 checked_in hosts d = do
   packages ← from_walk (packages_in hosts d)
@@ -53,19 +56,21 @@ checked_in hosts d = do
 
 -- ---- the whole
 
+-- whether a value is an object with the members that a script must have, and no others than it may have
 unfoldable pub has_script_members : Data → Bool
 has_script_members d =
     has_members (codes "participants" ∷ codes "rounds" ∷ [])
     (codes "response_timeout" ∷ codes "reaction_timeout" ∷ codes "skew" ∷ codes "packages" ∷ codes "triggers" ∷ []) d
 
--- the participants, but for what they have vetted, and the times
+-- the topology of a script, its participants and its times, where nobody has vetted anything yet
 unfoldable pub topology_in : Data → Result Topology WalkFault
 topology_in d = do
   hosts ← hosts_in d
   params ← params_of d
   Ok (record { hosts = hosts; params = params })
 
--- the participants, the times, the packages and their check, what is vetted, the rules, and the rounds
+-- The script that a value spells, or the first fault. Read are, in this order, the participants, the times, the packages, which then are checked,
+-- what is vetted, the rules, and the rounds.
 unfoldable pub script_of : Data → Result Script ScriptFault
 script_of d = do
   _ ← check (has_script_members d) (Shape [])
@@ -76,7 +81,7 @@ script_of d = do
   rounds ← from_walk (rounds_in known.hosts triggers d)
   Ok (record { topology = record { hosts = hosts; params = known.params }; checked = checked; triggers = triggers; rounds = rounds })
 
--- the script that bytes are, or its first fault
+-- the script that bytes spell, or its first fault
 unfoldable pub script_in : List ℕ → Result Script ScriptFault
 script_in bytes = do
   d ← from_walk (json_of bytes)

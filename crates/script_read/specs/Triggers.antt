@@ -1,4 +1,5 @@
--- The rules of a script: their first fault, or the rules.
+-- The rules of a script: their first fault, or the rules. `hosts` is the topology, `at` the place of the JSON value `d` that is read. Participants are
+-- indices in the topology.
 use Rattle.std.specs.Prelude.{ℕ, Bool, not, List, [], ◌∷◌, ◌++◌, Option, Some, None, Result, Ok, codes, length}
 use Rattle.std.specs.List.{list_any}
 use Rattle.serde_json.specs.Data.{Data}
@@ -16,14 +17,15 @@ use Rattle.trigger_rules.specs.declared.rule.Rule.{Rule}
 use Rattle.script_read.specs.Participants.{participant_of}
 use Rattle.json_walk.specs.declared.limits.TheConstants.{RULE_NAME_BYTES, RULES}
 
--- one of the rules has the name
+-- whether one of the rules has the name
 abbrev pub is_rule : List Rule → List ℕ → Bool
 is_rule rules name = list_any (λ (rule : Rule). same_name rule.name name) rules
 
+-- whether a value is an object with just the members of a rule
 unfoldable pub has_rule_members : Data → Bool
 has_rule_members d = has_members (codes "name" ∷ codes "participant" ∷ codes "party" ∷ []) [] d
 
--- the name of a rule, which keeps its limit and which none so far has
+-- the name in the member `name` of a rule: Limit where it is too long, Repeated where one of the rules `before` has it
 unfoldable pub rule_name_in : List Rule → Place → Data → Result (List ℕ) WalkFault
 rule_name_in before at d = do
   name ← name_in at (codes "name") d
@@ -31,17 +33,19 @@ rule_name_in before at d = do
   _ ← check (not (is_rule before name)) (Repeated (at_member at (codes "name")))
   Ok name
 
+-- the participant that submits for a rule, whose name stands in its member `participant`; Unknown where no participant has it
 unfoldable pub rule_participant_in : List Host → Place → Data → Result ℕ WalkFault
 rule_participant_in hosts at d = do
   m ← member_of at (codes "participant") d
   participant_of hosts (at_member at (codes "participant")) m
 
+-- the party that a rule acts for, in its member `party`; Unknown where nobody confirms for it
 unfoldable pub rule_party_in : List Host → Place → Data → Result (List ℕ) WalkFault
 rule_party_in hosts at d = do
   m ← member_of at (codes "party") d
   party_of hosts (at_member at (codes "party")) m
 
--- the rules before with one more
+-- the rules in `before` with the one behind them that a value spells, or the first fault of that
 unfoldable pub rule_of : List Host → List Rule → Place → Data → Result (List Rule) WalkFault
 rule_of hosts before at d = do
   _ ← check (has_rule_members d) (Shape at)
@@ -50,23 +54,26 @@ rule_of hosts before at d = do
   party ← rule_party_in hosts at d
   Ok (before ++ record { name = name; participant = participant; party = party } ∷ [])
 
+-- One step of a walk through the list of rules at the place `at`: `rule_of` for the item `d` at index i.
 abbrev pub rule_step : List Host → Place → ℕ → List Rule → Data → Result (List Rule) WalkFault
 rule_step hosts at i before d = rule_of hosts before (at_item at i) d
 
+-- the rules of a list, in order; Shape where it is no list, Limit where there are too many
 unfoldable pub rules_of : List Host → Place → Data → Result (List Rule) WalkFault
 rules_of hosts at d = do
   items ← few_items_of at RULES d
   walk_items (rule_step hosts at) 0 [] items
 
+-- the rules of a list at the place `at`; None, where the member is absent, gives none
 abbrev pub rules_if : List Host → Place → Option Data → Result (List Rule) WalkFault
 rules_if hosts at None = Ok []
 rules_if hosts at (Some d) = rules_of hosts at d
 
--- the rules of a script, of which there are none where the member is absent
+-- the rules in the member `triggers` of the script `d`, none where it is absent
 unfoldable pub triggers_in : List Host → Data → Result (List Rule) WalkFault
 triggers_in hosts d = rules_if hosts (at_member [] (codes "triggers")) (get (codes "triggers") d)
 
--- the id of a command, which isn't kept for a rule of the participant
+-- the id of a command in the member `command` of a submission or a raw request; Repeated where it is kept for a rule of its participant
 unfoldable pub own_command_in : List Rule → (participant : ℕ) → Place → Data → Result (List ℕ) WalkFault
 own_command_in rules participant at d = do
   command ← name_in at (codes "command") d

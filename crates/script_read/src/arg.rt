@@ -66,7 +66,8 @@ fn read_object(
     read_contract(alloc, value, at, topology)
 }
 
-/// The value that a field, an argument or a result is.
+/// The value or the reference to a contract that a field, an argument or a result spells at the place `at`, or the first fault; a list is Shape.
+/// Participants and parties have to be those of the topology.
 #[tactic(auto, unfolding(crate::specs::Args::arg_of))]
 pub fn read_arg(
     alloc: Global,
@@ -86,7 +87,8 @@ pub fn read_arg(
     }
 }
 
-/// The fields or arguments in a member, within the limit.
+/// The fields or arguments in the list that is the member `name` of the object `value` at the place `at`: Shape where it is absent or no list,
+/// Limit where their number is outside the limit, else the first fault of one. Participants and parties have to be those of the topology.
 #[tactic(auto, unfolding(crate::specs::Args::args_in))]
 pub fn args_in(
     alloc: Global,

@@ -12,7 +12,7 @@ use ledger_terms::{Command, Topology};
 use serde_json::Value;
 use std::alloc::Global;
 
-/// Whether the value has the members of a create.
+/// Whether the value is an object with the members `template` and `fields` alone, as the Create of a command or a draft and a forged instance have.
 #[tactic(auto, unfolding(crate::specs::Commands::has_create_members))]
 pub fn has_create_members(value: &Value) -> bool
     ensures { result ≡ has_create_members (view value.now) }
@@ -68,7 +68,7 @@ fn read_exercise(
     })
 }
 
-/// Whether the value is an object with the one member `create`.
+/// Whether the value is an object with the member `create` alone, as a command or a draft is.
 #[tactic(auto, unfolding(crate::specs::Commands::is_create))]
 pub fn is_create(value: &Value) -> bool
     ensures { result ≡ is_create (view value.now) }
@@ -76,7 +76,7 @@ pub fn is_create(value: &Value) -> bool
     fits(value, &["create"], &[])
 }
 
-/// Whether the value is an object with the one member `exercise`.
+/// Whether the value is an object with the member `exercise` alone, as a command or a draft is.
 #[tactic(auto, unfolding(crate::specs::Commands::is_exercise))]
 pub fn is_exercise(value: &Value) -> bool
     ensures { result ≡ is_exercise (view value.now) }
@@ -113,7 +113,8 @@ fn exercise_in(
     read_exercise(alloc, found, &at.member("exercise"), topology)
 }
 
-/// The command that a value spells.
+/// The command that the value at the place `at` spells, a Create or an Exercise, or the first fault: Shape where it is neither. Participants and
+/// parties have to be those of the topology.
 #[tactic(auto, unfolding(crate::specs::Commands::command_of))]
 pub fn read_command(
     alloc: Global,

@@ -89,7 +89,7 @@ fn read_fetch(
     Ok(alone(alloc, DraftAction::Fetch { contract, actors }))
 }
 
-/// Whether the value is an object with the one member `fetch`.
+/// Whether the value is an object with the member `fetch` alone, as the draft of a Fetch is.
 #[tactic(auto, unfolding(crate::specs::Drafts::is_fetch))]
 pub fn is_fetch(value: &Value) -> bool
     ensures { result ≡ is_fetch (view value.now) }
@@ -123,7 +123,8 @@ fn fetch_in(
     read_fetch(alloc, found, &at.member("fetch"), topology)
 }
 
-/// The draft that a value spells, where it is a create or a fetch and so has no children.
+/// The draft that the value at the place `at` spells, one of a Create or a Fetch, which has no children; or the first fault. Participants and
+/// parties have to be those of the topology.
 #[tactic(auto, unfolding(crate::specs::Drafts::leaf_of))]
 pub fn read_leaf(
     alloc: Global,
@@ -189,7 +190,8 @@ fn read_effect(
     Ok((actors, consuming, result))
 }
 
-/// The exercise that a value spells, as a draft without its children.
+/// The drafted Exercise, without its children, of the object in `{"exercise": ..}` that is `value` at the place `at`; or the first fault.
+/// Participants and parties have to be those of the topology.
 #[tactic(auto, unfolding(crate::specs::Drafts::exercise_draft_of))]
 pub fn read_exercise(
     alloc: Global,

@@ -24,7 +24,7 @@ pub fn is_participant(hosts: &[Host], name: Name) -> bool
     hosts.iter().any(|host| host.name == name)
 }
 
-/// Whether one of the names is this one.
+/// Whether `name` is one of the names.
 pub fn has_name(names: &[Name], name: Name) -> bool
     ensures { result ≡ has_party names.now name }
 {
@@ -113,8 +113,8 @@ fn new_host(alloc: Global, name: Name, parties: &NameList) -> Result<Host, Alloc
     })
 }
 
-/// Puts a participant behind the others, where `count` is how many parties they host. Of what it observes only the spelling is
-/// tried here, since a later participant may be the one that confirms.
+/// Puts a participant behind the others, where `count` is for how many parties they confirm, and gives that count with its own parties. Of what
+/// it observes only the spelling is tried here, since a later participant may be the one that confirms.
 #[tactic(auto, using(json_walk::proofs::Items::item_count_view), unfolding(crate::specs::Hosts::host_of))]
 fn push_host(
     alloc: Global,
@@ -172,7 +172,7 @@ fn root_member<'v>(alloc: Global, value: &'v Value, name: &str) -> Result<&'v Va
     member(value, &Place::root(alloc), name)
 }
 
-/// The member `participants` of a script.
+/// The value of the member `participants` of the script that is `value`; Shape where it is absent.
 #[tactic(auto, unfolding(crate::specs::Hosts::participants_of))]
 pub fn participants_of(alloc: Global, value: &Value) -> Result<&Value, WalkFault>
     ensures { MatchResult result (λ v. participants_of (view value.now) ≡ Ok (view v.now))
@@ -181,7 +181,7 @@ pub fn participants_of(alloc: Global, value: &Value) -> Result<&Value, WalkFault
     root_member(alloc, value, "participants")
 }
 
-/// The participants of a script, but for what they have vetted.
+/// The participants of the script that is `value`, with their parties and what they observe, but for what they have vetted; or the first fault.
 #[tactic(auto, unfolding(crate::specs::Hosts::hosts_in))]
 pub fn hosts_in(alloc: Global, value: &Value) -> Result<HostList, WalkFault>
     ensures first { Follows WalkFault.Memory result (hosts_in (view value.now)) }

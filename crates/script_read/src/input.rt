@@ -1,4 +1,4 @@
-//! The contracts that prepared actions use.
+//! The inputs of prepared actions: the contracts that they use, known ones or forged ones, whose parts are handed in as they are.
 ghost use Rattle.std.specs.Prelude.{◌≡◌};
 ghost use Rattle.serde_json.specs.View.{view};
 ghost use Rattle.ledger_terms.specs.Answers.{Follows};
@@ -80,7 +80,8 @@ fn salt_in(value: &Value, at: &Place) -> Result<Hash, WalkFault>
     read_hash(found, &at.member("salt"))
 }
 
-/// The template and the fields of a contract as they are handed in.
+/// The name of a template and the fields in the object `value` at the place `at`, which has the members `template` and `fields` alone, as a drafted
+/// Create and a forged instance have; or the first fault.
 #[tactic(auto, unfolding(crate::specs::Drafts::instance_of))]
 pub fn read_instance(
     alloc: Global,
@@ -163,7 +164,8 @@ fn read_input(
     }
 }
 
-/// The input in the member `contract`.
+/// The input in the member `contract` of the draft that is `value` at the place `at`, or the first fault. Participants and parties have to be those
+/// of the topology.
 #[tactic(auto, unfolding(crate::specs::Drafts::input_in))]
 pub fn input_in(
     alloc: Global,

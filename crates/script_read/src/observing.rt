@@ -13,7 +13,8 @@ use ledger_terms::{Host, HostList, NameList, PartySet, Text};
 use serde_json::Value;
 use std::alloc::Global;
 
-/// The names in the member `observing`, whatever they name; none where it is absent.
+/// The names in the member `observing` of the participant that is `value` at the place `at`, none where it is absent. Whether they are those of
+/// parties isn't tried yet.
 #[tactic(auto, unfolding(crate::specs::Observing::observing_names_in))]
 pub fn observing_names_in(alloc: Global, value: &Value, at: &Place) -> Result<NameList, WalkFault>
     ensures { Follows WalkFault.Memory result (observing_names_in at.now (view value.now)) }
@@ -155,7 +156,8 @@ fn read_observing_items(
     Ok(done)
 }
 
-/// The participants with what they observe, once all of them are known.
+/// The participants `hosts` with what they observe, read in a second walk through `value`, the list of participants at the place `at`, once all of
+/// them are known. Unknown at a party for which nobody confirms, Repeated at one that the participant has already.
 #[tactic(auto, unfolding(crate::specs::Observing::observing_of))]
 pub fn read_observing(
     alloc: Global,

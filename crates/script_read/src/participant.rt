@@ -23,7 +23,7 @@ fn participant_named(hosts: &[Host], name: Name) -> Option<ParticipantId>
     None
 }
 
-/// The participant that a value names.
+/// The participant of the topology whose name the value at the place `at` spells: Shape where it is no name, Unknown where no participant has it.
 #[tactic(auto, unfolding(crate::specs::Participants::participant_of))]
 pub fn read_participant(
     alloc: Global,
@@ -59,7 +59,8 @@ fn participant_member(
     read_participant(alloc, found, &at.member(name), topology)
 }
 
-/// The participant in the member `participant`.
+/// The participant whose name stands in the member `participant` of the object `value` at the place `at`: Shape where it is absent or no name,
+/// Unknown where no participant of the topology has it.
 #[tactic(auto, unfolding(crate::specs::Participants::participant_in))]
 pub fn participant_in(
     alloc: Global,

@@ -153,7 +153,8 @@ fn read_raw(
     })
 }
 
-/// The raw requests of a round, none where the member `raw` is absent.
+/// The raw requests in the member `raw` of the round that is `value` at the place `at`, none where it is absent, or the first fault. Participants
+/// have to be of the topology, and no command may have an id that is kept for one of `rules`.
 #[tactic(auto, unfolding(crate::specs::Raws::raws_in))]
 pub fn raws_in(
     alloc: Global,

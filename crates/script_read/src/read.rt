@@ -153,7 +153,7 @@ fn read_value(alloc: Global, value: &Value) -> Result<Script, ScriptFault>
     })
 }
 
-/// The script that the bytes are, or its first fault in the order of the walk: the participants, the times, the packages and
+/// The script that the bytes spell, or its first fault in the order in which they are read: the participants, the times, the packages and
 /// their check, what the participants have vetted, the rules, and the rounds. A script that is accepted keeps every limit and names only
 /// parties and participants of its topology.
 #[tactic(auto, unfolding(crate::specs::Script::script_in))]

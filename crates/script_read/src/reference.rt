@@ -26,7 +26,7 @@ fn hash_named(text: &str) -> Option<Hash>
     }
 }
 
-/// The hash that a value spells.
+/// The hash that the value at the place `at` spells; Shape where it is no text of 64 hexadecimal digits of either case.
 #[tactic(auto, unfolding(crate::specs::Refs::hash_of))]
 pub fn read_hash(value: &Value, at: &Place) -> Result<Hash, WalkFault>
     ensures { Follows WalkFault.Memory result (hash_of at.now (view value.now)) }
@@ -162,7 +162,8 @@ fn read_text(
     Ok(ContractRef::Id(id))
 }
 
-/// The contract that a value names, by its label or by its id.
+/// The reference to a contract that the value at the place `at` spells, a label behind a `#` or an id; or the first fault: Shape, Limit where a
+/// label has too many steps, Unknown where no participant of the topology has its name. Whether there is such a contract isn't asked.
 #[tactic(auto, unfolding(crate::specs::Refs::reference_of))]
 pub fn read_reference(
     alloc: Global,
@@ -178,7 +179,7 @@ pub fn read_reference(
     read_text(alloc, text, at, topology)
 }
 
-/// The contract that a member of this name names.
+/// The reference to a contract in the member `name` of the object `value` at the place `at`, or the first fault; Shape where that member is absent.
 #[tactic(auto, unfolding(crate::specs::Commands::reference_in))]
 pub fn reference_in(
     alloc: Global,

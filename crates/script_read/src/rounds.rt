@@ -160,7 +160,8 @@ fn read_rounds(
     )
 }
 
-/// The rounds of a script.
+/// The rounds of the script that is `value`, in order, or the first fault. `topology` has its participants, and `rules` are its rules, whose ids of
+/// commands no submission may have.
 #[tactic(auto, unfolding(crate::specs::Rounds::rounds_in))]
 pub fn rounds_in(
     alloc: Global,

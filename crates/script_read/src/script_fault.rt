@@ -8,10 +8,11 @@ use lang_check::CheckFault;
 use ledger_terms::{Pointer, Text};
 use std::alloc::{AllocError, AllocFailed};
 
-/// The first fault of a script, or want of memory. A path is the place of the fault, as a JSON pointer from the script's
-/// root. `which` is the number of the limit that is broken and `found` the count or number that breaks it, 0 for a negative
-/// one. Package is the first fault that the check of the packages finds, which has its own place in the list of packages;
-/// want of memory in that check is Memory.
+/// The first fault of a script, or want of memory. `path` is the place of the fault, as a JSON pointer from the script's root.
+/// NotJson: the bytes are no JSON. Shape: a value has another form than it should, or a member is absent. NotInteger: a number isn't whole.
+/// Unknown: `name` is that of no participant, party or package. Limit: `which` is the number of the limit that is broken and `found` the count or
+/// number that breaks it, 0 for a negative one. Repeated: something stands for the second time. Package: the first fault that the check of the
+/// packages finds, which has its own place in the list of packages; want of memory in that check is Memory.
 #[derive(Drop)]
 pub enum ScriptFault {
     NotJson,
@@ -40,7 +41,7 @@ pub enum ScriptFault {
 }
 
 impl ScriptFault {
-    /// The fault's word.
+    /// The word for the fault, as the program's line on standard error has it.
     pub fn name(&self) -> &'static str
         ensures { result.now ≡ fault_name self.now }
     {
@@ -56,7 +57,7 @@ impl ScriptFault {
         }
     }
 
-    /// The place of the fault in the script. NotJson, Package and Memory have none.
+    /// The place of the fault in the script, as a JSON pointer; None for NotJson, Package and Memory, which have none.
     pub fn path(&self) -> Option<&str>
         ensures { option_map (λ p. p.now) result ≡ fault_path self.now }
     {

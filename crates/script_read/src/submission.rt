@@ -127,7 +127,8 @@ fn read_submits(
     Ok((submits, count))
 }
 
-/// The submissions of a round, and the number of submissions with them. `before` is the number of those in the rounds before.
+/// The submissions of the round that is `value` at the place `at`, and the number of submissions with them, or the first fault. `before` is the
+/// number of those in the rounds before, which count to the limit; no command may have an id that is kept for `rules`.
 #[tactic(auto, unfolding(crate::specs::Rounds::submits_in))]
 pub fn submits_in(
     alloc: Global,

@@ -50,7 +50,8 @@ fn skew_in(alloc: Global, value: &Value) -> Result<u64, WalkFault>
     wait_in(alloc, value, "skew", SKEW)
 }
 
-/// The times of a script, in microseconds, each with its default where it is absent.
+/// The three times of the script that is `value`, in microseconds, each with its default where it is absent: Shape where one is no number,
+/// NotInteger where it isn't whole, Limit where it is outside the limit.
 #[tactic(auto, unfolding(crate::specs::Hosts::params_of))]
 pub fn read_params(alloc: Global, value: &Value) -> Result<Params, WalkFault>
     ensures { Follows WalkFault.Memory result (params_of (view value.now)) }

@@ -129,7 +129,8 @@ fn read_rules(
     read_rule_items(alloc, items, at, topology)
 }
 
-/// The rules of a script, of which there are none where the member is absent.
+/// The rules of the script that is `value`, in order, none where the member `triggers` is absent; or the first fault. Their participants and
+/// parties have to be those of the topology.
 #[tactic(auto, unfolding(crate::specs::Triggers::triggers_in))]
 pub fn triggers_in(alloc: Global, value: &Value, topology: &Topology) -> Result<RuleList, WalkFault>
     requires { length topology.now.hosts ≤ 256 }
@@ -144,7 +145,8 @@ pub fn triggers_in(alloc: Global, value: &Value, topology: &Topology) -> Result<
     }
 }
 
-/// The id in the member `command`, of a command of the participant. One that is kept for a rule of it is a repetition.
+/// The id of a command in the member `command` of `value`, a submission or a raw request of `participant` at the place `at`. It is Repeated where
+/// that id is kept for one of the participant's `rules`, Shape where it is absent or no name.
 #[tactic(auto, unfolding(crate::specs::Triggers::own_command_in))]
 pub fn own_command_in(
     value: &Value,

@@ -104,7 +104,8 @@ fn read_vetting_items(
     Ok(done)
 }
 
-/// The participants with what they have vetted: names of packages, or all packages where the member is absent.
+/// The participants `hosts` with the names of the packages that they have vetted, all packages where the member is absent. `value` is the whole
+/// script. Unknown where a name is that of no package.
 #[tactic(auto, unfolding(crate::specs::Hosts::vetting_in))]
 pub fn vetting_in(
     alloc: Global,

@@ -119,7 +119,7 @@ fn prepared_in(
     Ok(What::Prepared { seed_of, roots })
 }
 
-/// Whether the value has the members of a submission of commands.
+/// Whether the value is an object with the members of a submission of commands; a submission without them may be one of a prepared tree.
 #[tactic(auto, unfolding(crate::specs::Rounds::are_commands))]
 pub fn are_commands(value: &Value) -> bool
     ensures { result ≡ are_commands (view value.now) }
@@ -131,7 +131,8 @@ pub fn are_commands(value: &Value) -> bool
     )
 }
 
-/// The commands or the prepared trees of a submission.
+/// What the submission that is `value` at the place `at` asks for, its commands or else its prepared tree, or the first fault. Participants and
+/// parties have to be those of the topology.
 #[tactic(auto, unfolding(crate::specs::Rounds::what_in))]
 pub fn what_in(
     alloc: Global,

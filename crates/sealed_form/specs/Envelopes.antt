@@ -9,7 +9,7 @@ use Rattle.blind_tree.specs.Vertices.{Vertices, NoVertices, BlindVertex, InnerVe
 use Rattle.blind_tree.specs.declared.leaf.Leaf.{Leaf}
 use Rattle.blind_tree.specs.declared.leaf.Leaf.TheVariants.{Blind, Plain}
 
--- the view at a path
+-- the view at a path of these views, None where none stands there
 abbrev pub view_at : Path → Forest SplitView → Option SplitView
 view_at path NoRoots = None
 view_at [] (Root view subviews others) = None
@@ -17,7 +17,7 @@ view_at (zero ∷ []) (Root view subviews others) = Some view
 view_at (zero ∷ (step ∷ path)) (Root view subviews others) = view_at (step ∷ path) subviews
 view_at (suc k ∷ path) (Root view subviews others) = view_at (k ∷ path) others
 
--- the views on the way down a path: that at its end, and those above it
+-- The views on the way down a path, from the root view to the one at its end, as far as they are there.
 abbrev pub views_down : Path → Forest SplitView → List SplitView
 views_down path NoRoots = []
 views_down [] (Root view subviews others) = []
@@ -28,11 +28,12 @@ views_down (suc k ∷ path) (Root view subviews others) = views_down (k ∷ path
 abbrev pub sees_at : (hosts : List ℕ → Bool) → Path → Forest SplitView → Bool
 sees_at hosts path views = list_any (is_sight hosts) (views_down path views)
 
+-- the bytes that a leaf shows, None where it shows its hash alone
 abbrev pub plain_bytes : Leaf → Option (List ℕ)
 plain_bytes (Blind hash) = None
 plain_bytes (Plain salt bytes) = Some bytes
 
--- the bytes of the contents leaf at a path, where the vertex there shows it and not its hash
+-- The bytes of the contents leaf of the vertex at a path, where it shows them; None where it doesn't, or no vertex stands there.
 abbrev pub contents_at : Path → Vertices → Option (List ℕ)
 contents_at path NoVertices = None
 contents_at [] (BlindVertex hash others) = None

@@ -34,15 +34,18 @@ use Rattle.blind_tree.specs.declared.tree.Tree.{Tree}
 
 -- ---- what a sender makes of a transaction
 
--- A transaction with the name of its sender and the salts of the first two leaves of its trees.
+-- What a sender makes a request of: its name, the salts of the first two leaves of its trees, and its transaction. It is no whole that is read from
+-- envelopes.
 pub record Whole : Type 0 where
   pub sender : List ℕ
   pub salts : Salts
   pub transaction : Transaction
 
+-- an action's roles by the rules of these packages
 abbrev pub roles_by : Packages → Action → Roles
 roles_by packages = roles_of (the_language packages)
 
+-- the views of a transaction by the rules of these packages
 abbrev pub views_by : Packages → Transaction → Forest SplitView
 views_by packages t = split (roles_by packages) t.roots
 
@@ -50,21 +53,22 @@ views_by packages t = split (roles_by packages) t.roots
 abbrev pub split_as : Transaction → Forest SplitView → Views
 split_as t views = record { act_as = t.requesters; ledger_time = t.ledger_time; seed = []; roots = views }
 
--- the tree for a participant, where the sender has this name
+-- the tree of the transaction for participant p, where the sender has this number and this name
 abbrev pub tree_for : Topology → Packages → (sender : ℕ) (name : List ℕ) → Salts → Transaction → ℕ → Tree
 tree_for topology packages sender name salts t p =
     tree_to sha256 salts name t (views_by packages t) (hosts_at topology.hosts p) (nat_eq p sender)
 
+-- the envelope to participant p: the bytes of its tree
 abbrev pub envelope_for : Topology → Packages → (sender : ℕ) (name : List ℕ) → Salts → Transaction → ℕ → Envelope
 envelope_for topology packages sender name salts t p = record { to = p; bytes = spell_tree (tree_for topology packages sender name salts t p) }
 
--- the participants that confirm a confirmer of a view
+-- those of these participants that confirm a confirmer of a view; `confirms` tells for which parties each confirms
 abbrev pub confirming_by : (confirms : ℕ → List ℕ → Bool) → List ℕ → Forest SplitView → List ℕ
 confirming_by confirms participants views =
     filter (λ p. list_any (λ (view : SplitView). list_any (confirms p) view.confirmers) (preorder views)) participants
 
--- The request of a transaction: the participants that confirm for a confirmer of a view are asked, and each recipient gets its tree,
--- both in the order of the topology.
+-- The request of a transaction: the participants that confirm for a confirmer of a view are asked, and each recipient gets its tree, both in the order
+-- of the topology.
 abbrev pub request_of : Topology → Packages → (sender : ℕ) (name command : List ℕ) → Salts → Transaction → Request
 request_of topology packages sender name command salts t =
     record {
@@ -77,31 +81,33 @@ request_of topology packages sender name command salts t =
 
 -- ---- what is read of a request
 
+-- what was read, None where there was a fault
 abbrev pub found : {A : Type 0} → Result A WireFault → Option A
 found (Ok x) = Some x
 found (Err fault) = None
 
--- the tree that bytes spell
+-- the tree that bytes spell, None where they spell none
 abbrev pub tree_in : List ℕ → Option Tree
 tree_in bytes = found (read_all tree_at bytes)
 
--- the trees that any of these spell, in order
+-- the trees that any of these bytes spell, in order
 abbrev pub trees_in : List (List ℕ) → List Tree
 trees_in [] = []
 trees_in (bytes ∷ more) = option_to_list (tree_in bytes) ++ trees_in more
 
+-- the bytes of an envelope
 abbrev pub bytes_of : Envelope → List ℕ
 bytes_of envelope = envelope.bytes
 
--- the bytes of the first envelope to a participant
+-- the bytes of the first envelope to participant p, None where there is none
 abbrev pub envelope_to : ℕ → List Envelope → Option (List ℕ)
 envelope_to p [] = None
 envelope_to p (envelope ∷ rest) = if nat_eq envelope.to p then Some envelope.bytes else envelope_to p rest
 
 -- ---- sealed requests
 
--- What can be sealed: each action has roles, its informees and the parties that it names are those of the topology, the
--- sender confirms for the requesters, and all that is in the trees is in the range of the formats and has room in them.
+-- What can be sealed: each action has roles, its informees and the parties that it names are those of the topology, the sender confirms for the
+-- requesters, and all that is in the trees is in the range of the formats and has room in them.
 pub record CanBeSealed (topology : Topology) (packages : Packages) (sender : ℕ) (whole : Whole) : Type 0 where
   pub sender_is : is_host_named topology.hosts sender whole.sender ≡ true
   pub has_roles : (a : Act) → Contains (acts whole.transaction.roots) a → (the_language packages).has_roles a.action ≡ true

@@ -13,13 +13,15 @@ use Rattle.sealed_form.specs.RangeTests.{are_in_range, is_hash, is_small}
 use Rattle.sealed_form.specs.SealedForm.{Whole, roles_by, split_as, views_by}
 use Rattle.sealed_form.specs.Within.{is_hosted}
 
+-- each of these actions has roles by the rules of these packages
 abbrev pub have_roles : Packages → List Act → Bool
 have_roles packages actions = list_all (λ (a : Act). (the_language packages).has_roles a.action) actions
 
+-- each informee of each of these actions is a party of the topology
 abbrev pub are_informees_hosted : Topology → Packages → List Act → Bool
 are_informees_hosted topology packages actions = list_all (λ (a : Act). list_all (is_hosted topology) (roles_by packages a.action).informees) actions
 
--- the sender is a participant, which confirms for the requesters, and the parties of the actions are those of the topology
+-- The sender is a participant, which confirms for the requesters, and the parties of the actions are those of the topology.
 abbrev pub are_parties_hosted : Topology → Packages → (sender : ℕ) → Whole → Bool
 are_parties_hosted topology packages sender whole =
     is_host_named topology.hosts sender whole.sender
@@ -28,7 +30,7 @@ are_parties_hosted topology packages sender whole =
     && (list_all (is_hosted topology) (parties_in_forest whole.transaction.roots)
     && list_all (confirms_at topology.hosts sender) whole.transaction.requesters)))
 
--- what is in its trees is in range and has room
+-- what is in the transaction's trees is in the range of the formats and has room in them
 abbrev pub is_spellable : Packages → Whole → Bool
 is_spellable packages whole =
     is_hash whole.salts.common
@@ -36,5 +38,6 @@ is_spellable packages whole =
     && (are_in_range whole.sender (split_as whole.transaction (views_by packages whole.transaction))
     && is_small whole.sender (split_as whole.transaction (views_by packages whole.transaction))))
 
+-- The test of `CanBeSealed`: whether a transaction can be sealed by this sender.
 abbrev pub can_be_sealed : Topology → Packages → (sender : ℕ) → Whole → Bool
 can_be_sealed topology packages sender whole = are_parties_hosted topology packages sender whole && is_spellable packages whole

@@ -13,8 +13,8 @@ use Rattle.blind_tree.specs.Blind.{is_host_named, salts_of}
 use Rattle.sealed_form.specs.SealedForm.{Whole}
 use Rattle.sealed_form.specs.Within.{is_hosted}
 
--- The sender has this name and confirms for the requesters, and what is handed in, packages and known contracts name only parties of
--- the topology.
+-- What a participant submits names only parties of the topology, in what is handed in, in the packages and in the known contracts; and the sender has
+-- this name and confirms for the requesters.
 pub record IsSubmittedWithin (topology : Topology) (packages : Packages) (known : List Known) (sender : ℕ) (name : List ℕ) (act_as handed_in : PartyNames)
     : Type 0 where
   pub sender_is : is_host_named topology.hosts sender name ≡ true
@@ -23,7 +23,7 @@ pub record IsSubmittedWithin (topology : Topology) (packages : Packages) (known 
   pub named_by_known : AreKnown (is_hosted topology) (parties_in_contracts known)
   pub named_by_input : AreKnown (is_hosted topology) handed_in
 
--- a transaction of a sender of this name, with the salts of its seed
+-- a transaction of a sender of this name, with the salts that its seed gives
 abbrev pub whole_with_seed : (name : List ℕ) → Tx → Whole
 whole_with_seed name tx =
     record {

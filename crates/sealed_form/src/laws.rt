@@ -42,7 +42,7 @@ ghost use Rattle.sealed_form.specs.SealedForm.{CanBeSealed, IsSealedForm, Whole,
 ghost use Rattle.sealed_form.specs.SealedForm.{views_by};
 ghost use Rattle.sealed_form.specs.SealedTest.{can_be_sealed};
 
-/// The test of what can be sealed decides it.
+/// The test of what can be sealed is true exactly of what can be sealed.
 pub fn what_can_be_sealed_is_decided()
     ensures { (topology : Topology) (packages : Packages) (sender : ℕ) (whole : Whole)
         → Decides (can_be_sealed topology packages sender whole) (CanBeSealed topology packages sender whole) }
@@ -69,7 +69,7 @@ pub fn envelopes_show_the_contents_of_what_is_seen()
         → envelope_to p request.envelopes ≡ None → sees_at (hosts_at topology.hosts p) path (views_by packages (sealed.whole).transaction) ≡ false }
 {}
 
-/// The request that is made of what can be sealed is sealed, where no bytes of it are too long.
+/// The request that is made of a transaction that can be sealed is sealed, where neither the mediator's bytes nor an envelope is too long.
 pub fn requests_made_are_sealed()
     ensures { (topology : Topology) (packages : Packages) (sender : ℕ) (command : List ℕ) (whole : Whole) (request : Request)
         → CanBeSealed topology packages sender whole
@@ -105,7 +105,7 @@ pub fn requests_are_blinded()
         ≡ tree_to_mediator sha256 (salts_of sha256 seed) name t (views_by packages t) }
 {}
 
-/// Where a transaction is split, its views are those of its roots, and each action has roles.
+/// Where splitting a transaction succeeds, its views are those that the rules make of its roots, and each of its actions has roles.
 pub fn what_is_split_has_roles()
     ensures roots { (packages : Packages) (tx : Tx) (views : Views) → views_of_tx packages tx ≡ Ok views → views.roots ≡ split (roles_in packages) tx.roots }
     ensures roles { (packages : Packages) (tx : Tx) (views : Views) (a : Act) → views_of_tx packages tx ≡ Ok views → Contains (acts tx.roots) a
@@ -119,19 +119,19 @@ pub fn wanted_transactions_keep_the_limits_of_trees()
         → KeepLimits forest }
 {}
 
-/// What a prepared tree is filled to keeps these limits, too.
+/// What a prepared tree is filled to keeps the limits under which trees can be made and written.
 pub fn filled_trees_keep_the_limits_of_trees()
     ensures { (known : List Known) (seed : List ℕ) (drafts : Drafts) (forest : Actions) → IsFilled known seed drafts forest → KeepLimits forest }
 {}
 
-/// Who is asked can be read off the views that a transaction is split into.
+/// Which participants are asked can be read off the views that a transaction is split into: just those that confirm a view.
 pub fn views_tell_who_is_asked()
     ensures { (language : Language) (confirms : ℕ → List ℕ → Bool) (participants : List ℕ) (roots : Forest Act)
         → confirming_by confirms participants (split (roles_of language) roots) ≡ confirming_of language confirms participants roots }
 {}
 
-/// Where a participant checks that an action which is opened to it authorises its children, it asks of the rules whether the
-/// actions directly below it are authorised.
+/// What a participant checks of the children of an action that is opened to it is the test of the rules, `are_authorised_below`, on the actions
+/// directly below it.
 pub fn authority_is_checked()
     ensures { (roles : Action → Roles) (shown : Shown) (a : ℕ × Act)
         → authorises_children roles shown a ≡ are_authorised_below roles (a.1).action (below_at a.0 shown.roots) }

@@ -6,12 +6,12 @@ use Rattle.seq_log.specs.declared.admission.Admission.{Admission}
 use Rattle.seq_log.specs.declared.admission.Admission.TheVariants.{Taken, Refused}
 use Rattle.seq_log.specs.declared.fault.AppendFault.{AppendFault}
 
--- why the message isn't appended, if it isn't
+-- the fault for which a message isn't appended, and None where it is
 abbrev pub refusal_of : Admission → Option AppendFault
 refusal_of (Taken outline) = None
 refusal_of (Refused fault) = Some fault
 
--- where the message is appended and is a request, what its mediator's bytes tell comes with it
+-- Where the message is appended and is a request, what comes with it is what its mediator's bytes tell. Of a message that is refused it says nothing.
 abbrev pub IsAdmitted : Message → Admission → Type 0
 IsAdmitted message (Taken outline) = IsOutlined message outline
 IsAdmitted message (Refused fault) = Unit {0}

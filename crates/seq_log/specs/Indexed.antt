@@ -10,7 +10,8 @@ use Rattle.seq_log.specs.OpenRequests.{open_requests}
 use Rattle.seq_log.specs.declared.key.Key.{Key}
 use Rattle.seq_log.specs.declared.log_index.LogIndex.{LogIndex}
 
--- the index is that of the list, whose times rise
+-- What the sequencer keeps beside its log is that of this list of entries: where each message stands, how many places are reserved, the last time and
+-- the open requests. And the list's times follow one another.
 pub record IsIndexOf (index : LogIndex) (list : List Entry) : Type 0 where
   pub leads : Leads list (λ (key : Key). get key_eq index.places key)
   pub reserved : index.reserved ≡ s.reserved list

@@ -8,20 +8,21 @@ use Rattle.world_model.specs.Sequencing.{is_verdict_on}
 use Rattle.seq_log.specs.declared.key.Key.{Key}
 use Rattle.seq_log.specs.declared.key.Key.TheVariants.{Request, Response, Verdict}
 
--- the key of a message, which no other message of a log has; a Tick has none
+-- The key of a message, which no other message of a log has: sender and command of a request, sender and request of a response, the request of a
+-- verdict. A Tick has none.
 abbrev pub key_of : Message → Option Key
 key_of (RequestMessage request) = Some (Request request.sender request.command)
 key_of (ResponseMessage response) = Some (Response response.from response.request)
 key_of (VerdictMessage verdict) = Some (Verdict verdict.request)
 key_of Tick = None
 
--- the message is the one of this key
+-- whether the message has this key
 abbrev pub is_key : Key → Message → Bool
 is_key (Request sender command) = is_request_of sender command
 is_key (Response sender request) = is_response_of sender request
 is_key (Verdict request) = is_verdict_on request
 
--- two keys are one
+-- whether two keys are the same
 abbrev pub key_eq : Key → Key → Bool
 key_eq (Request p c) (Request q d) = nat_eq p q && bytes_eq c d
 key_eq (Request p c) (Response q j) = false

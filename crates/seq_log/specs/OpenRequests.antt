@@ -4,10 +4,11 @@ use Rattle.canton_model.specs.Log.{Params, request_at}
 use Rattle.world_model.specs.Messages.{Entry}
 use Rattle.world_model.specs.Settled.{is_undecided}
 
--- a request stands at place k, and is undecided in the whole list
+-- whether a request stands at place k of the list, and is undecided in the whole of it
 abbrev pub is_open : Params → List Entry → (k : ℕ) → Bool
 is_open params list k = is_some (request_at list k) && is_undecided params list k
 
+-- the list of place k alone where the test holds, else the empty list
 abbrev pub place_if : Bool → (k : ℕ) → List ℕ
 place_if true k = k ∷ []
 place_if false k = []
@@ -17,25 +18,26 @@ abbrev pub places_below : (ℕ → Bool) → (n : ℕ) → List ℕ
 places_below test zero = []
 places_below test (suc k) = places_below test k ++ place_if (test k) k
 
--- the places of the open requests, in rising order
+-- the places of the list's open requests, in rising order: those that are undecided in the whole of it
 abbrev pub open_requests : Params → List Entry → List ℕ
 open_requests params list = places_below (is_open params list) (length list)
 
--- places from the first bound up to the second, each above the one before
+-- the places rise strictly, from `low` on and below `high`; of no places, that `low` is at most `high`
 abbrev pub RisesBetween : (low : ℕ) → List ℕ → (high : ℕ) → Type 0
 RisesBetween low [] high = low ≤ high
 RisesBetween low (k ∷ places) high = (low ≤ k) × RisesBetween (suc k) places high
 
--- the first place passes the test
+-- whether the first of the places passes the test; false of no places
 abbrev pub begins_with : (ℕ → Bool) → List ℕ → Bool
 begins_with test [] = false
 begins_with test (k ∷ places) = test k
 
+-- the second list where the test of a list's first place holds, and else the first list; for `after_front`
 abbrev pub unless_front : Bool → (kept fewer : List ℕ) → List ℕ
 unless_front true kept fewer = fewer
 unless_front false kept fewer = kept
 
--- the places from the first one on that doesn't pass the test
+-- the places without those at the front that pass the test: from the first one on that doesn't pass it
 abbrev pub after_front : (ℕ → Bool) → List ℕ → List ℕ
 after_front test [] = []
 after_front test (k ∷ places) = unless_front (test k) (k ∷ places) (after_front test places)

@@ -9,23 +9,25 @@ use Rattle.log_row.specs.LogPrefix.{LogPrefix, RowName}
 use Rattle.seq_log.specs.declared.fault.AppendFault.{AppendFault}
 use Rattle.seq_log.specs.declared.fault.AppendFault.TheVariants.{Already, Unframed, LogFull, TooLate, Memory}
 
+-- What contracts see of a sequencer: the name of its history, its log, how many places requests may need in all, and its topology.
 pub record Sequenced : Type 0 where
   pub row : RowName
   pub list : List Entry
   pub capacity : ℕ
   pub topology : Topology
 
--- the history that the sequencer writes
+-- the history that the sequencer writes, with all its entries, as a pen or a slip is seen
 abbrev pub prefix_of : Sequenced → LogPrefix
 prefix_of s = record { row = s.row; list = s.list }
 
--- the sequencer has the times and the capacity of the machine, and its topology tells which requests are framed there
+-- The machine, that is what the definitions rest on, has this sequencer's times and capacity, and counts those requests as framed that are framed
+-- over its topology.
 pub record IsFor (m : Machine) (s : Sequenced) : Type 0 where
   pub params : m.params ≡ (s.topology).params
   pub framed : (request : Request) → (m.reading).is_framed request ≡ is_framed s.topology request
   pub capacity : m.capacity ≡ s.capacity
 
--- the fault in the words of the world model; want of memory is none there
+-- a fault of the code in the words of the world model; None of want of memory, which is no fault there
 abbrev pub cause_of : AppendFault → Option s.AppendFault
 cause_of (Already place) = Some (s.Already place)
 cause_of Unframed = Some s.Unframed
@@ -33,12 +35,13 @@ cause_of (LogFull reserved need) = Some (s.LogFull reserved need)
 cause_of (TooLate decision time) = Some (s.TooLate decision time)
 cause_of Memory = None
 
+-- a fault of the code, where there is one, in the words of the world model; None where there is none or it is want of memory
 abbrev pub fault_if : Option AppendFault → Option s.AppendFault
 fault_if None = None
 fault_if (Some fault) = cause_of fault
 
--- What want of memory leaves open: the message fits, or nobody knows whether it is a framed request that has room. It tells that
--- no such message stands there yet and that it isn't too late.
+-- What is left possible where an append answers want of memory, of the fault that the definition gives (None where the message fits): none, Unframed
+-- or LogFull. So no such message stands in the log yet, and it isn't too late.
 abbrev pub LeftOpen : Option s.AppendFault → Type 0
 LeftOpen None = Unit {0}
 LeftOpen (Some (s.Already place)) = ⊥

@@ -21,7 +21,8 @@ fn entry_time(slips: &Vec<Slip<'_>>, place: u64) -> u64
     }
 }
 
-/// The fault that the next entry would come after the decision time of the request, where it would. `last` is the time of the last entry.
+/// The fault TooLate, where a message on the request at place `request` would come after that request's decision time; None where it would come in
+/// time. `last` is the time of the log's last entry, which the next one follows by a microsecond.
 pub fn if_late(
     slips: &Vec<Slip<'_>>,
     params: &Params,
@@ -42,7 +43,7 @@ pub fn if_late(
     }
 }
 
-/// Whether the decision time of the request at a place lies before this time.
+/// Whether the decision time of the request at `place` lies before `time`.
 pub fn is_past(slips: &Vec<Slip<'_>>, params: &Params, place: u64, time: u64) -> bool
     ensures { (t : LogPrefix) → Holds t slips.now.items → result ≡ nat_lt (decision_time_of params.now t.list place) time }
 {
@@ -52,7 +53,7 @@ pub fn is_past(slips: &Vec<Slip<'_>>, params: &Params, place: u64, time: u64) ->
     decision < time
 }
 
-/// The fault that a request needs more places than the capacity leaves, where it does.
+/// The fault LogFull, where a request needs more places than the capacity leaves beside those that are reserved; None where there is room.
 pub fn if_full(capacity: u64, reserved: u64, need: u64) -> Option<AppendFault>
     requires { reserved ≤ capacity }
     ensures { if_full capacity reserved need ≡ fault_if result }

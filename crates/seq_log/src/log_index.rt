@@ -41,7 +41,7 @@ pub struct LogIndex {
     pub last: u64,
 }
 
-/// The time of the next entry: a microsecond after the last one's, and for a Tick `now`, where that is later.
+/// The time of the next entry, where the last one's time is `last`: a microsecond later, and for a Tick `now` where that is later still.
 pub fn next_time(now: u64, message: &Message, last: u64) -> u64
     requires { last + 1 < 2 ^ 64 }
     ensures { result ≡ next_time now message.now last }
@@ -52,7 +52,8 @@ pub fn next_time(now: u64, message: &Message, last: u64) -> u64
     }
 }
 
-/// How many places of the log a message needs: a request two and one for each confirming participant, any other message none.
+/// How many places of the log a message needs: a request two, for itself and its verdict, and one for each confirming participant; any other message
+/// none.
 pub fn need_of(message: &Message) -> u64
     ensures { result ≡ s.need_of message.now }
 {
@@ -62,7 +63,7 @@ pub fn need_of(message: &Message) -> u64
     }
 }
 
-// What a request adds to what was spent.
+// How many places a request needs: its own, one for its verdict, and one for the response of each confirming participant.
 fn need_of_request(request: &Request) -> u64
     ensures { result ≡ 2 + length request.now.confirming }
 {
@@ -123,7 +124,8 @@ impl LogIndex {
         }
     }
 
-    /// Whether the message is appended, and else the first cause why it isn't.
+    /// Whether the message is appended, and else the first cause why it isn't. `slips` are those of all entries of the log. An error says that there
+    /// is no memory.
     pub fn admit(
         &self,
         alloc: Global,
@@ -160,7 +162,7 @@ impl LogIndex {
         stands(&self.places, &Key::Verdict(request))
     }
 
-    /// Makes room for one more place, and for one more open request.
+    /// Makes room to note one more entry: for one more place, and for one more open request. `note` then takes no memory.
     pub fn reserve(&mut self) -> Result<(), AllocError>
         ensures kept { (list : List Entry) → IsIndexOf self.old list → IsIndexOf self.new list }
         ensures made { (self.new.params ≡ self.old.params) × (self.new.capacity ≡ self.old.capacity) }
@@ -172,7 +174,8 @@ impl LogIndex {
         self.open_requests.reserve()
     }
 
-    /// Notes one more entry, in the room that is there.
+    /// Notes the entry that was put at `place`: its message's key, where it has one, how many places the message needs, and its time. `slips` has its
+    /// slip already, and room was made by `reserve`.
     pub fn note(
         &mut self,
         slips: &Vec<Slip<'_>>,

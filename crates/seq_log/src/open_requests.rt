@@ -23,7 +23,7 @@ pub struct OpenRequests {
 }
 
 impl OpenRequests {
-    // The first one's decision time lies before this time.
+    // Whether the first request's decision time lies before this time. False where there is no request.
     fn begins_past(&self, slips: &Vec<Slip<'_>>, params: &Params, time: u64) -> bool
         ensures some { result ≡ true → 0 < deque_len self.now.places }
         ensures past { (t : LogPrefix) → Holds t slips.now.items
@@ -35,7 +35,7 @@ impl OpenRequests {
         }
     }
 
-    /// Drops the requests whose decision time lies before this time, from the front on.
+    /// Drops the requests whose decision time lies before `time`. They are at the front, since decision times rise with the places.
     pub fn expire(&mut self, slips: &Vec<Slip<'_>>, params: &Params, time: u64)
         ensures places { (t : LogPrefix) → Holds t slips.now.items
             → self.new.places.items ≡ after_front (λ k. nat_lt (decision_time_of params.now t.list k) time) self.old.places.items }
@@ -58,6 +58,7 @@ impl OpenRequests {
         }
     }
 
+    /// Adds the place of a request at the end, unless the request is decided.
     fn add_unless(&mut self, is_decided: bool, place: u64)
         requires room { deque_len self.old.places < deque_capacity self.old.places }
         ensures { self.new.places.items ≡ self.old.places.items ++ place_if (not is_decided) place }
@@ -67,7 +68,7 @@ impl OpenRequests {
         }
     }
 
-    /// Makes room for one more place.
+    /// Makes room for one more place, so that `follow` takes no memory.
     pub fn reserve(&mut self) -> Result<(), AllocError>
         ensures places { self.new.places.items ≡ self.old.places.items }
         ensures room { OnOk result (deque_len self.new.places < deque_capacity self.new.places) }
@@ -88,8 +89,8 @@ impl OpenRequests {
         }
     }
 
-    /// Follows the entry at `place`, whose message has this key: a verdict decides its request, and a request is open unless a verdict
-    /// on it stands before it, as `is_decided` says.
+    /// Follows the entry at `place`, whose message has this key, None of a Tick: a verdict takes its request out, and a request comes in unless a
+    /// verdict on it stands before it, as `is_decided` says.
     pub fn follow(&mut self, key: &Option<Key>, place: u64, is_decided: bool)
         requires room { deque_len self.old.places < deque_capacity self.old.places }
         ensures { (message : Message) (low high : ℕ) → key.now ≡ key_of message → RisesBetween low self.old.places.items high

@@ -12,7 +12,7 @@ use crate::key::{Key, key_of};
 use canton_model::Message;
 use indexmap::IndexMap;
 
-/// The place at which a message stands already.
+/// The place at which a message of the same key stands in the log, and None where none does. A Tick never stands there.
 pub fn place_of(places: &IndexMap<Key, u64>, message: &Message) -> Option<u64>
     ensures { (list : List Entry) → Leads list (λ k. get key_eq places.now k) → result ≡ s.first_from (s.is_same message.now) 0 list }
 {
@@ -28,7 +28,7 @@ fn place_behind(places: &IndexMap<Key, u64>, key: &Key) -> Option<u64>
     places.get(key).copied()
 }
 
-/// Whether the message of this key stands in the log.
+/// Whether a message of this key stands in the log whose places these are.
 pub fn stands(places: &IndexMap<Key, u64>, key: &Key) -> bool
     ensures { (list : List Entry) → Leads list (λ k. get key_eq places.now k) → result ≡ list_any (λ (e : Entry). is_key key.now e.message) list }
 {
@@ -42,7 +42,7 @@ fn put(places: &mut IndexMap<Key, u64>, key: Key, place: u64)
     let _ = places.insert(key, place).unwrap();
 }
 
-/// Notes where the message of a new entry stands.
+/// Notes that the message of a new entry, with this key, stands at `place`. A Tick has no key, and nothing is noted.
 pub fn put_place(places: &mut IndexMap<Key, u64>, key: Option<Key>, place: u64)
     requires { 0 < spare places.old }
     ensures { (list : List Entry) (e : Entry) → Leads list (λ k. get key_eq places.old k) → length list ≡ place → key ≡ key_of e.message

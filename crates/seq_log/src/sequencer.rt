@@ -96,8 +96,8 @@ impl<'r> Sequencer<'r> {
         })
     }
 
-    /// Appends the message, and gives its entry's slip. The entry's time is the microsecond after the last entry's; that of a Tick is
-    /// `now`, in microseconds, where it is later. After a refusal all is as before, and the message comes back.
+    /// Appends the message, and gives its entry's slip. The entry's time is the microsecond after the last entry's; that of a Tick is `now`, in
+    /// microseconds, where it is later. After a refusal all is as before, and the message comes back with the fault.
     pub fn append(&mut self, message: Message, now: u64) -> Result<Slip<'r>, AppendRefusal>
         requires { now ≤ 10 ^ 16 }
         ensures made { (self.new.row ≡ self.old.row) × (self.new.capacity ≡ self.old.capacity) × (self.new.topology ≡ self.old.topology) }
@@ -146,7 +146,7 @@ impl<'r> Sequencer<'r> {
         }
     }
 
-    /// The slip of a place, and none exactly where the log doesn't reach so far.
+    /// The slip of the entry at a place, counted from 0, and None exactly where the log doesn't reach so far.
     pub fn entry(&mut self, place: u64) -> Option<Slip<'r>>
         ensures same { self.new ≡ self.old }
         ensures some { IfSome result (λ slip. (place < length self.old.list) × (slip ≡ prefix_to (prefix_of self.old) (place + 1))) }
@@ -180,14 +180,14 @@ impl<'r> Sequencer<'r> {
         self.index.has_response(request, from)
     }
 
-    /// The times of the topology.
+    /// The times of the topology, with which deadlines and decision times are reckoned.
     pub fn params(&self) -> &Params
         ensures { result.now ≡ self.now.topology.params }
     {
         &self.topology.params
     }
 
-    /// Shows that the slip's list begins the log. Nothing changes.
+    /// Lets the prover know that the slip's list, which is of this log, begins it. Nothing changes when the program runs.
     pub fn reaches(&mut self, slip: &mut Slip<'r>)
         requires { slip.old.row ≡ self.old.row }
         ensures same { (self.new ≡ self.old) × (slip.new ≡ slip.old) }

@@ -14,14 +14,18 @@ use Rattle.world_model.specs.Sequencing.{reserved}
 use Rattle.world_model.specs.Settled.{sum_below}
 use Rattle.shared_rounds.specs.Queues.{AreQueuesOf, queued}
 
--- What is so once the submissions `submits` of a round are answered: of the log, which was `first` when they began, and of the queues of
--- results, one for each participant.
+-- What holds once the submissions `submits` of a round are answered: of the log `log`, which was `first` when they began, and of the queues of results,
+-- one for each participant, in the order of the topology. `now` and `paused` are the round's time and who is paused in it.
 pub record AreAnswered (m : Machine) (why : Why SubmitFault) (now : ℕ) (paused : List ParticipantId) (first : List Entry) (submits : List Submission)
     (log : List Entry) (queues : List (List SubmitResult)) : Type 0 where
+  -- the log is genuine, within its capacity, and goes on from `first`
   pub genuine : GenuineLog m log
   pub within_capacity : reserved log ≤ m.capacity
   pub begins : IsPrefix first log
+  -- each participant has a queue, with one result for each of its submissions
   pub hosts : length queues ≡ m.hosts
   pub queues_of : AreQueuesOf submits queues
+  -- what the results in each queue say is so of the log
   pub clients : (p : ParticipantId) → p < m.hosts → ClientHas m why now paused first log (queued submits queues p)
+  -- as many requests and Ticks came into the log behind `first` as the clients were given tickets
   pub count : inputs log ≡ inputs first + sum_below (λ (p : ParticipantId). tickets (queued submits queues p)) m.hosts

@@ -7,7 +7,8 @@ use shared_world::Synchroniser;
 use std::alloc::{AllocError, Global};
 use sync_shared::{Client, Session};
 
-/// A client for each participant, in their order.
+/// A client for each participant, in the order of the topology, of which there are `hosts`. Each has seen what stood in the log when the sharing began,
+/// and has a share of its own; an Err is want of memory for the list.
 pub fn clients_of<'r, S: Session>(
     alloc: Global,
     shared: &mut Synchroniser<'r, S>,

@@ -13,7 +13,7 @@ use ledger_terms::{ParticipantId, Submission};
 use node_core::{SubmitResult, SubmitResultList};
 use std::alloc::{AllocError, Global};
 
-// The first result of the participant's queue is taken away.
+// Takes the first result of the participant's queue out; None where the queue is empty.
 fn next_slice(queues: &mut [ResultQueue], participant: ParticipantId) -> Option<SubmitResult>
     requires there { participant < length queues.old }
     ensures some { IfSome result (λ first. queue_at queues.old participant ≡ first ∷ queue_at queues.new participant) }
@@ -35,7 +35,8 @@ fn next_of(queues: &mut Vec<ResultQueue>, participant: ParticipantId) -> Option<
     next_slice(queues.as_mut_slice(), participant)
 }
 
-/// The results of these submissions in their order, each taken from its participant's queue.
+/// The results of these submissions in the order of the submissions. `queues` has one queue for each participant, of the results of its submissions in
+/// their order, and each result is taken from its participant's queue. An Err is want of memory.
 pub fn in_order(
     alloc: Global,
     submits: &[Submission],

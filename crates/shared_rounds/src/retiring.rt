@@ -12,6 +12,7 @@ use shared_world::Synchroniser;
 use std::alloc::{AllocError, Global};
 use sync_shared::Session;
 
+// Retires one client.
 fn retire<'r, S: Session>(shared: &mut Synchroniser<'r, S>, served: Served<'r, S>) -> Retired<'r>
     requires ledger { S.parts ≡ 1025 }
     ensures out { shared.new.out + 1 ≡ shared.old.out }
@@ -27,7 +28,8 @@ fn retire<'r, S: Session>(shared: &mut Synchroniser<'r, S>, served: Served<'r, S
     }
 }
 
-/// Retires the clients, in their order.
+/// Retires the clients, in their order: the synchroniser takes their shares back. The result has for each, in the same order, the slip of the last
+/// entry that it had seen and the results of its submissions. An Err is want of memory for the list.
 pub fn retire_each<'r, S: Session>(
     alloc: Global,
     shared: &mut Synchroniser<'r, S>,
@@ -59,7 +61,8 @@ fn reaches<'r>(sequencer: &mut Sequencer<'r>, last: Option<Slip<'r>>)
     }
 }
 
-/// The results of each client. What each had seen begins the log.
+/// The results of each retired client, in the same order; an Err is want of memory for the list. The sequencer stays as it is: the prover learns from
+/// it that what each client had seen begins the log.
 pub fn results_of_each<'r>(
     alloc: Global,
     sequencer: &mut Sequencer<'r>,

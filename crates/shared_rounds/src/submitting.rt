@@ -39,7 +39,7 @@ use std::thread::Threads;
 use sync_shared::Session;
 use world_play::World;
 
-/// What comes of a round's submissions: the synchroniser then, and the results in the order of the submissions.
+/// What comes of a round's submissions: the synchroniser after them, and the results in the order of the submissions.
 #[derive(Drop)]
 pub struct Answered<'r> {
     pub world: World<'r>,
@@ -95,12 +95,11 @@ fn gather<
     Ok(Gathered { world, queues })
 }
 
-/// What comes of submissions of a round that has begun, by a client for each participant in a thread of its own, beside as many lanes as
-/// `workers` has. Each client submits what is its participant's, in order, and asks once after each request that was sent. Before a
-/// client's request is prepared, its participant reads at least what the client has seen. Lanes go on until they find nothing more to do.
-/// Where there are less than two submissions no thread is started, and no lane works. When all have ended the parts of the synchroniser are
-/// put together again, with the participants' bases as they were, and it is not settled. After want of memory there is no synchroniser any
-/// more.
+/// Answers the submissions of a round that has begun, by a client for each participant in a thread of its own, beside as many lanes as `workers` has.
+/// Each client submits what is its participant's, in order, and asks once after each request that was sent. Before a client's request is prepared, its
+/// participant reads at least what the client has seen. Lanes go on until they find nothing more to do.
+/// Where there are less than two submissions no thread is started, and no lane works. When all have ended the parts of the synchroniser are put together
+/// again, with the participants' bases as they were, and it is not settled. After want of memory there is no synchroniser any more.
 pub fn submit_shared<'r, R: Threads + Wait + Sync + RandomSource + AllocGlobal, G: Gate + Sync>(
     workers: &Workers<'_, R, G>,
     setup: &Setup,

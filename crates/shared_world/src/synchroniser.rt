@@ -23,13 +23,12 @@ use std::sync::ledger::{Blank, Book, Share};
 use sync_shared::{Client, RoundRules, Session, Shared, SyncParts, again, last_of};
 use world_play::World;
 
-/// How many parts the ledger of what comes in is cut into: one for each client that isn't retired, and one that stays.
+/// How many shares the book of what comes in is cut into: one for each client that isn't retired, and one that stays with the synchroniser.
 pub const LEDGER_PARTS: u64 = 1025;
 
-/// A synchroniser whose sequencer, mediator and participants lie behind locks, for as long as threads share it. It counts what comes
-/// into the log: a client's requests with the client's share, and Ticks with the share that stays here. Contracts see how many
-/// clients aren't retired, how much those that are and the rounds brought in, what the round says, and the entries as far as the last
-/// round's Tick.
+/// A synchroniser whose sequencer, mediator and participants lie behind locks, for as long as threads share it. It counts what comes into the log: a
+/// client's requests with the client's share, and Ticks with the share that stays here. Contracts see how many clients aren't retired, how many entries
+/// came of retired clients and of Ticks, what the round says, and the log up to the last round's Tick.
 #[derive(Drop)]
 pub struct Synchroniser<'r, S: Session> {
     shared: Shared<'r, S>,
@@ -91,8 +90,8 @@ fn shared_of<'r, S: Session>(alloc: Global, world: World<'r>, count: Book<S>) ->
 }
 
 impl<'r, S: Session> Synchroniser<'r, S> {
-    /// Puts the parts of a world behind locks, without memory. In the synchroniser's round nobody is paused and no verdicts are held. `alloc` is
-    /// what its calls allocate from.
+    /// Puts the parts of a world behind locks, without memory. Nobody is paused at first and no verdicts are held. `alloc` is what its calls allocate
+    /// from later. The book, which counts what comes into the log, and its shares are made of `blank`.
     pub fn of(alloc: Global, world: World<'r>, blank: Blank) -> Synchroniser<'r, S>
         requires set_up { IsSetUp S.topology S.packages S.machine S.why }
         requires nodes { AreSetUp S.topology S.packages (world.nodes).items }
@@ -117,8 +116,9 @@ impl<'r, S: Session> Synchroniser<'r, S> {
         }
     }
 
-    /// A synchroniser with an empty log in `row`, a participant for each host and nothing read. `capacity` is how many entries its
-    /// requests may need in all.
+    /// A synchroniser for the topology and packages of `setup`: with an empty log in `row`, a participant for each host and nothing read. Its requests
+    /// may need `capacity` places of the log in all. The book, which counts what comes into the log, and its shares are made of `blank`. An Err is want
+    /// of memory.
     pub fn new(
         alloc: Global,
         setup: &'r Setup,
@@ -138,8 +138,8 @@ impl<'r, S: Session> Synchroniser<'r, S> {
         Ok(Synchroniser::of(alloc, world, blank))
     }
 
-    /// Begins a round: time moves on by `advance` microseconds, of which a Tick tells where they are more than none, and just these participants
-    /// are paused. After want of memory all is as before.
+    /// Begins a round: time moves on by `advance` microseconds, and where that is above 0 a Tick is sequenced; just these participants are paused, and
+    /// `hold_verdicts` says whether lanes hold verdicts back. After want of memory all is as before.
     pub fn begin_round(
         &mut self,
         advance: u64,
@@ -165,7 +165,8 @@ impl<'r, S: Session> Synchroniser<'r, S> {
             .begin(&mut self.home, &mut self.known, round, advance > 0)
     }
 
-    /// A client of a participant, which has seen all that stood in the log when the sharing began.
+    /// A client of the participant, which has seen all that stood in the log when the sharing began, and has sent nothing. It gets a share of its own,
+    /// with which it counts what it appends.
     pub fn client(&mut self, participant: ParticipantId) -> Client<'r, S>
         requires few { self.old.out < 1024 }
         requires host { participant < length (S.topology).hosts }
@@ -177,7 +178,8 @@ impl<'r, S: Session> Synchroniser<'r, S> {
         Client::of(share, again(&mut self.start), participant)
     }
 
-    /// Takes the client's share back, and gives the slip of the last entry that it had seen: none exactly where it had seen none.
+    /// Takes the client's share back, with the count of what it appended. The result is the slip of the last entry that the client had seen, None
+    /// exactly where it had seen none.
     pub fn retire(&mut self, client: Client<'r, S>) -> Option<Slip<'r>>
         requires { S.parts ≡ 1025 }
         ensures out { self.new.out + 1 ≡ self.old.out }
@@ -192,9 +194,9 @@ impl<'r, S: Session> Synchroniser<'r, S> {
         last
     }
 
-    /// The parts, without memory. Once every client is retired, the log has as many requests and Ticks more than when the sharing
-    /// began as the clients had tickets and the rounds brought in. What the mediator and each participant have read begins the log, and the
-    /// bases are what they were.
+    /// Ends the sharing: the parts, taken out of their locks, as a world again, without memory. Every client has to be retired. The log then has
+    /// exactly `counted` requests and Ticks more than when the sharing began. What the mediator and each participant have read begins the log, and the
+    /// participants' bases are what they were.
     pub fn into_parts(self) -> World<'r>
         requires ledger { S.parts ≡ 1025 }
         requires out { self.out ≡ 0 }

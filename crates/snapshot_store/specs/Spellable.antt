@@ -13,40 +13,43 @@ use Rattle.node_state.specs.declared.item_what.ItemWhat.{ItemWhat}
 use Rattle.node_state.specs.declared.item_what.ItemWhat.TheVariants.{Nothing, Request, Verdict}
 use Rattle.node_state.specs.declared.node_state.NodeState.{NodeState}
 
--- A row's instance has a spelling, and its id, which isn't spelled, is that of its salt and its instance.
+-- The row of an active contract has a spelling: its instance has one, and its id, which isn't spelled, is that of its salt and its instance.
 pub record IsSpellableRow (row : ActiveRow) : Type 0 where
   pub instance : IsSpellableInstance row.known.instance
   pub id : row.known.id ≡ contract_id row.known.salt row.known.instance
 
--- no more paths than two bytes count, each of which has a spelling
+-- A list of paths has a spelling: they are no more than two bytes count, each of which has a spelling.
 pub record AreSpellablePaths (paths : List (List ℕ)) : Type 0 where
   pub few : length paths ≤ MOST_OF_TWO_BYTES
   pub each : All IsSpellablePath paths
 
--- the length of an envelope has room in four bytes
+-- An envelope has a spelling: its length, where there is one, has room in four bytes.
 abbrev pub IsSpellableEnvelope : Option (List ℕ) → Type 0
 IsSpellableEnvelope None = Unit {0}
 IsSpellableEnvelope (Some bytes) = length bytes < 2 ^ 32
 
+-- What an item brings has a spelling. A request needs it of its paths and its envelope, since its other parts always have one.
 abbrev pub IsSpellableWhat : ItemWhat → Type 0
 IsSpellableWhat Nothing = Unit {0}
 IsSpellableWhat (Request sender command root seen confirmed envelope) =
     AreSpellablePaths seen × AreSpellablePaths confirmed × IsSpellableEnvelope envelope
 IsSpellableWhat (Verdict verdict) = IsSpellableVerdict verdict
 
+-- An item of an inbox has a spelling: what it brings has one, since its time always has.
 abbrev pub IsSpellableItem : Item → Type 0
 IsSpellableItem item = IsSpellableWhat item.what
 
--- ids that ascend
+-- A list of ids has a spelling: they ascend and are no more than four bytes count.
 pub record AreSpellableIds (ids : List (List ℕ)) : Type 0 where
   pub few : length ids < 2 ^ 32
   pub ascend : IsRising ids
 
--- places that ascend
+-- A list of places has a spelling: they ascend and are no more than four bytes count.
 pub record AreSpellablePlaces (places : List ℕ) : Type 0 where
   pub few : length places < 2 ^ 32
   pub ascend : IsStrictlyIncreasing places
 
+-- A state has a spelling, since each of its parts has one.
 pub record IsSpellableState (state : NodeState) : Type 0 where
   pub active : AreCounted IsSpellableRow state.active
   pub gone : AreSpellableIds state.gone

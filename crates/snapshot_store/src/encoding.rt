@@ -16,7 +16,7 @@ use node_state::{Item, ItemList, ItemWhat, NodeState, ResponseList};
 use std::alloc::{AllocError, Global};
 use wire_form::{encode_hash, encode_instance, encode_name, encode_truth, encode_u32, encode_u64};
 
-/// The spelling of a state, which `decode` reads as that state again.
+/// The bytes that spell a state, which `decode` reads as that state again.
 #[tactic(auto, unfolding(crate::specs::Spelling::spell_state))]
 pub fn encode(alloc: Global, state: &NodeState) -> Result<Bytes, AllocError>
     requires { IsSpellableState state.now }

@@ -7,7 +7,7 @@ use interpret::contract_id;
 use ledger_terms::{Hash, Instance, Known};
 use std::alloc::{AllocError, Global};
 
-/// The contract of a salt and an instance.
+/// The contract of a salt and an instance, with the id that is computed of both.
 pub fn known_with(alloc: Global, salt: Hash, instance: Instance) -> Result<Known, AllocError>
     requires { IsSpellableInstance instance }
     ensures { IfOk result (λ known. known ≡ created_known salt instance) }

@@ -206,7 +206,7 @@ fn keeps_rows(rows: &[ActiveRow])
     }
 }
 
-/// A state that has a spelling is in range.
+/// Shows that a state that has a spelling is in range, since its types keep the rest. It answers nothing.
 pub(crate) fn keeps_state(state: &NodeState)
     ensures { IsSpellableState state.now → IsState state.now }
 {

@@ -6,12 +6,13 @@ use Rattle.std.specs.List.{flat_map}
 abbrev pub is_kept : ℕ → Bool
 is_kept byte = byte == 38 || (byte == 60 || (byte == 62 || (byte == 34 || byte == 39)))
 
--- the entity of a byte that XML keeps for itself
+-- the entity that stands in XML for a byte which XML keeps for itself; any byte but & < > and `"` is taken for an apostrophe
 abbrev pub entity : ℕ → List ℕ
 entity byte =
     if byte == 38 then codes "&amp;" else (if byte == 60 then codes "&lt;" else (if byte == 62 then codes "&gt;"
     else (if byte == 34 then codes "&quot;" else codes "&apos;")))
 
+-- how a byte is written in XML: as its entity where XML keeps it for itself, and else as it is
 abbrev pub escaped_byte : ℕ → List ℕ
 escaped_byte byte = if is_kept byte then entity byte else byte ∷ []
 

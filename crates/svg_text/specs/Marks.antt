@@ -5,6 +5,7 @@ use Rattle.svg_text.specs.declared.mark.Mark.TheVariants.{Approved, Rejected, Ti
 use Rattle.svg_text.specs.declared.tone.Tone.{Tone}
 use Rattle.svg_text.specs.declared.tone.Tone.TheVariants.{Good, Bad, Waiting}
 
+-- the tone in which a mark is drawn
 abbrev pub mark_tone : Mark → Tone
 mark_tone Approved = Good
 mark_tone Rejected = Bad
@@ -12,7 +13,7 @@ mark_tone TimedOut = Waiting
 mark_tone Expired = Waiting
 mark_tone Undecided = Waiting
 
--- the path of a mark, drawn round the point 0 0
+-- the lines of a mark, drawn round the point 0 0, in the notation of the attribute `d` of an SVG path
 abbrev pub mark_path : Mark → List ℕ
 mark_path Approved = codes "M-6 0L-2 4L6 -5"
 mark_path Rejected = codes "M-5 -5L5 5M5 -5L-5 5"

@@ -14,7 +14,7 @@ pub enum Anchor {
 }
 
 impl Anchor {
-    /// The word of the style sheet.
+    /// The class of the style sheet for it.
     pub(crate) fn word(&self) -> &'static str
         ensures { result.now ≡ anchor_word self.now }
     {

@@ -10,6 +10,7 @@ use crate::size::Size;
 use itoa::Buffer;
 use std::alloc::AllocError;
 
+/// Puts a number in decimal at the end of `out`, as all functions here put what they name.
 pub(crate) fn put_number(out: &mut String, number: u32) -> Result<(), AllocError>
     ensures { OnOk result (string_bytes out.new ≡ string_bytes out.old ++ decimal number) }
 {
@@ -35,7 +36,7 @@ fn put_attribute_start(out: &mut String, name: &str) -> Result<(), AllocError>
     out.push_str("=\"")
 }
 
-/// An attribute with two numbers between other words.
+/// An attribute whose value is two numbers, with other words before and behind them; the words aren't escaped.
 pub(crate) fn put_pair_attribute(
     out: &mut String,
     name: &str,
@@ -54,7 +55,7 @@ pub(crate) fn put_pair_attribute(
     out.push_str("\"")
 }
 
-/// An attribute with a word between other words.
+/// An attribute whose value is a word, with other words before and behind it; none of them is escaped.
 pub(crate) fn put_joined_attribute(
     out: &mut String,
     name: &str,
@@ -72,7 +73,7 @@ pub(crate) fn put_joined_attribute(
     out.push_str("\"")
 }
 
-/// A blank, a name and a number.
+/// An attribute whose value is a number.
 pub(crate) fn put_number_attribute(
     out: &mut String,
     name: &str,
@@ -87,7 +88,7 @@ pub(crate) fn put_number_attribute(
     out.push_str("\"")
 }
 
-/// A blank, a name and a text.
+/// An attribute whose value is a text, which is escaped.
 pub(crate) fn put_attribute(out: &mut String, name: &str, text: &str) -> Result<(), AllocError>
     ensures { OnOk result (string_bytes out.new ≡ string_bytes out.old ++ attribute name.now text.now) }
 {
@@ -98,7 +99,7 @@ pub(crate) fn put_attribute(out: &mut String, name: &str, text: &str) -> Result<
     out.push_str("\"")
 }
 
-/// The class attribute with two words.
+/// The attribute `class` with two words of the style sheet.
 pub(crate) fn put_class(out: &mut String, first: &str, second: &str) -> Result<(), AllocError>
     ensures { OnOk result (string_bytes out.new ≡ string_bytes out.old ++ class_attribute first.now second.now) }
 {
@@ -109,6 +110,7 @@ pub(crate) fn put_class(out: &mut String, first: &str, second: &str) -> Result<(
     out.push_str("\"")
 }
 
+/// The attributes `x` and `y` of a point.
 pub(crate) fn put_place(out: &mut String, at: Point) -> Result<(), AllocError>
     ensures { OnOk result (string_bytes out.new ≡ string_bytes out.old ++ place at) }
 {
@@ -116,6 +118,7 @@ pub(crate) fn put_place(out: &mut String, at: Point) -> Result<(), AllocError>
     put_number_attribute(out, "y", at.y)
 }
 
+/// The attributes `width` and `height` of a size.
 pub(crate) fn put_extent(out: &mut String, size: Size) -> Result<(), AllocError>
     ensures { OnOk result (string_bytes out.new ≡ string_bytes out.old ++ extent size) }
 {
@@ -123,7 +126,7 @@ pub(crate) fn put_extent(out: &mut String, size: Size) -> Result<(), AllocError>
     put_number_attribute(out, "height", size.height)
 }
 
-/// The ends of a line.
+/// The attributes of a line that goes from one point to the other.
 pub(crate) fn put_ends(out: &mut String, from: Point, to: Point) -> Result<(), AllocError>
     ensures { OnOk result (string_bytes out.new ≡ string_bytes out.old ++ ends from to) }
 {

@@ -37,7 +37,7 @@ fn put_label_class(out: &mut String, label: &Label) -> Result<(), AllocError>
     out.push_str("\"")
 }
 
-/// A text's tag.
+/// The tag that begins a line of text, with its place and its looks.
 pub(crate) fn put_label_start(out: &mut String, label: &Label) -> Result<(), AllocError>
     ensures { OnOk result (string_bytes out.new ≡ string_bytes out.old ++ label_start label.now) }
 {
@@ -47,7 +47,7 @@ pub(crate) fn put_label_start(out: &mut String, label: &Label) -> Result<(), All
     out.push_str(">")
 }
 
-/// The tip of an arrow of the tone with this word.
+/// The attribute that puts the tip of an arrow at the end of a line; the word is that of the tone.
 #[tactic(auto, unfolding(crate::specs::Elements::tip))]
 pub(crate) fn put_tip(out: &mut String, word: &str) -> Result<(), AllocError>
     ensures { OnOk result (string_bytes out.new ≡ string_bytes out.old ++ tip word.now) }
@@ -55,13 +55,14 @@ pub(crate) fn put_tip(out: &mut String, word: &str) -> Result<(), AllocError>
     put_joined_attribute(out, "marker-end", "url(#tip-", word, ")")
 }
 
+/// The attribute `class` of a shape: the words of its tone and of its fill.
 pub(crate) fn put_paint(out: &mut String, paint: Paint) -> Result<(), AllocError>
     ensures { OnOk result (string_bytes out.new ≡ string_bytes out.old ++ paint_class paint) }
 {
     put_class(out, paint.tone.word(), paint.fill.word())
 }
 
-/// Where a rectangle stands.
+/// The attributes of a rectangle: its corner, its size, and the radius of its corners.
 pub(crate) fn put_outline(out: &mut String, frame: Frame) -> Result<(), AllocError>
     ensures { OnOk result (string_bytes out.new ≡ string_bytes out.old ++ outline frame) }
 {
@@ -70,7 +71,7 @@ pub(crate) fn put_outline(out: &mut String, frame: Frame) -> Result<(), AllocErr
     put_number_attribute(out, "rx", frame.radius)
 }
 
-/// Where a circle stands.
+/// The attributes of a circle: its middle and its radius.
 pub(crate) fn put_round(out: &mut String, at: Point, radius: u32) -> Result<(), AllocError>
     ensures { OnOk result (string_bytes out.new ≡ string_bytes out.old ++ round at radius) }
 {
@@ -79,7 +80,7 @@ pub(crate) fn put_round(out: &mut String, at: Point, radius: u32) -> Result<(), 
     put_number_attribute(out, "r", radius)
 }
 
-/// Where a path that is drawn round the point 0 0 stands.
+/// The attribute that moves a path, which is drawn round the point 0 0, to another point.
 pub(crate) fn put_shift(out: &mut String, at: Point) -> Result<(), AllocError>
     ensures { OnOk result (string_bytes out.new ≡ string_bytes out.old ++ shift at) }
 {
@@ -119,6 +120,7 @@ fn put_described(out: &mut String, name: &str, text: &str) -> Result<(), AllocEr
     put_described_end(out, name)
 }
 
+/// The page under everything that is drawn.
 fn put_page(out: &mut String, size: Size) -> Result<(), AllocError>
     ensures { OnOk result (string_bytes out.new ≡ string_bytes out.old ++ page size) }
 {
@@ -143,6 +145,7 @@ pub(crate) fn put_opening(
     put_page(out, size)
 }
 
+/// The first tag of the picture.
 fn put_root(out: &mut String, size: Size) -> Result<(), AllocError>
     ensures { OnOk result (string_bytes out.new ≡ string_bytes out.old ++ root size) }
 {
@@ -152,6 +155,7 @@ fn put_root(out: &mut String, size: Size) -> Result<(), AllocError>
     out.push_str(">\n")
 }
 
+/// The style sheet and the tips of arrows.
 fn put_sheets(out: &mut String) -> Result<(), AllocError>
     ensures { OnOk result (string_bytes out.new ≡ string_bytes out.old ++ sheets) }
 {

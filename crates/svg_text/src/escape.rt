@@ -24,8 +24,8 @@ fn entity(byte: u8) -> &'static str
     }
 }
 
-/// Puts a text at the end, the bytes that XML keeps for itself as their entities. It may then stand between tags, and between
-/// the quotes of an attribute.
+/// Puts a text at the end of `out`, the bytes that XML keeps for itself as their entities. It may then stand between tags, and between the quotes of
+/// an attribute. Where there is no memory, a part of it may have been put.
 pub fn put_escaped(out: &mut String, text: &str) -> Result<(), AllocError>
     ensures { OnOk result (string_bytes out.new ≡ string_bytes out.old ++ escaped text.now) }
 {

@@ -18,7 +18,7 @@ pub enum Font {
 }
 
 impl Font {
-    /// The word of the style sheet.
+    /// The class of the style sheet for it.
     pub(crate) fn word(&self) -> &'static str
         ensures { result.now ≡ font_word self.now }
     {

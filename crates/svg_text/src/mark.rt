@@ -1,4 +1,4 @@
-//! Marks, whose shape says what a colour says.
+//! Marks, whose shape says what their colour says, for those who can't tell colours.
 ghost use Rattle.std.specs.Prelude.{◌≡◌};
 ghost use Rattle.svg_text.specs.Marks.{mark_path, mark_tone};
 
@@ -20,7 +20,7 @@ pub enum Mark {
 }
 
 impl Mark {
-    /// The tone of the mark.
+    /// The tone in which the mark is drawn: good, bad or waiting.
     pub fn tone(&self) -> Tone
         ensures { result ≡ mark_tone self.now }
     {

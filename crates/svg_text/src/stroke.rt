@@ -16,7 +16,7 @@ pub enum Dash {
 }
 
 impl Dash {
-    /// The word of the style sheet.
+    /// The class of the style sheet for it.
     pub(crate) fn word(&self) -> &'static str
         ensures { result.now ≡ dash_word self.now }
     {

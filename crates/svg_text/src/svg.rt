@@ -36,7 +36,8 @@ impl Model for Svg {
 }
 
 impl Svg {
-    /// A picture of this size, with a title and a description for those who don't see it, over a page of its own colour.
+    /// Begins a picture of this size, with a title and a description for those who don't see it. A page of the style sheet's colour lies under all
+    /// that is drawn.
     pub fn new(alloc: Global, size: Size, title: &str, description: &str) -> Result<Svg, AllocError>
         ensures { IfOk result (λ svg. svg ≡ opening size title.now description.now) }
     {
@@ -45,7 +46,7 @@ impl Svg {
         Ok(Svg { out })
     }
 
-    /// The whole picture. No group may stay begun.
+    /// Ends the picture and gives it as an SVG text. Each group that was begun has to be ended before.
     pub fn finish(self) -> Result<Text, AllocError>
         ensures { IfOk result (λ text. text ≡ self ++ codes "</svg>\n") }
     {
@@ -54,7 +55,8 @@ impl Svg {
         Ok(Text::of_string(out))
     }
 
-    /// Begins a group of a class of one's own.
+    /// Begins a group, which has what is drawn up to its `end_group`. The class is a word of the caller's, by which others find the group in the
+    /// text.
     pub fn begin_group(&mut self, class: &str) -> Result<(), AllocError>
         ensures { OnOk result (self.new ≡ self.old ++ group_start class.now ++ codes "\n") }
     {
@@ -63,7 +65,7 @@ impl Svg {
         self.out.push_str(">\n")
     }
 
-    /// Begins a group of a class of one's own, which has a title.
+    /// Begins a group with a class of the caller's and with a title, which readers show when the pointer rests on the group.
     pub fn begin_titled_group(&mut self, class: &str, title: &str) -> Result<(), AllocError>
         ensures { OnOk result (self.new ≡ self.old ++ group_start class.now ++ title_element title.now ++ codes "\n") }
     {
@@ -81,7 +83,7 @@ impl Svg {
         self.out.push_str("</g>\n")
     }
 
-    /// Draws a line of text.
+    /// Draws the words as one line of text, where and how the label says. They are escaped.
     pub fn text(&mut self, label: &Label, words: &str) -> Result<(), AllocError>
         ensures { OnOk result (self.new ≡ self.old ++ text_element label.now words.now) }
     {
@@ -90,7 +92,8 @@ impl Svg {
         self.out.push_str("</text>\n")
     }
 
-    /// Draws a line of text that stands for a longer one, which is its title.
+    /// Draws the words as one line of text that stands for a longer one, as where it was cut. `whole` is the longer one and becomes the title of the
+    /// element.
     pub fn titled_text(&mut self, label: &Label, words: &str, whole: &str) -> Result<(), AllocError>
         ensures { OnOk result (self.new ≡ self.old ++ titled_text_element label.now words.now whole.now) }
     {
@@ -100,7 +103,7 @@ impl Svg {
         self.out.push_str("</text>\n")
     }
 
-    /// Draws a line.
+    /// Draws a line from one point to the other.
     pub fn line(&mut self, from: Point, to: Point, stroke: Stroke) -> Result<(), AllocError>
         ensures { OnOk result (self.new ≡ self.old ++ line_element from to stroke) }
     {
@@ -110,7 +113,7 @@ impl Svg {
         self.out.push_str("/>\n")
     }
 
-    /// Draws a line with a tip at its second end.
+    /// Draws an arrow, whose tip is at `to`.
     pub fn arrow(&mut self, from: Point, to: Point, stroke: Stroke) -> Result<(), AllocError>
         ensures { OnOk result (self.new ≡ self.old ++ arrow_element from to stroke) }
     {
@@ -121,7 +124,7 @@ impl Svg {
         self.out.push_str("/>\n")
     }
 
-    /// Draws a rectangle.
+    /// Draws a rectangle; `paint` gives the tone of its edge and its fill.
     pub fn rectangle(&mut self, frame: Frame, paint: Paint) -> Result<(), AllocError>
         ensures { OnOk result (self.new ≡ self.old ++ rectangle_element frame paint) }
     {
@@ -131,7 +134,7 @@ impl Svg {
         self.out.push_str("/>\n")
     }
 
-    /// Draws a circle round a point.
+    /// Draws a circle round the point `at`; `paint` gives the tone of its edge and its fill.
     pub fn circle(&mut self, at: Point, radius: u32, paint: Paint) -> Result<(), AllocError>
         ensures { OnOk result (self.new ≡ self.old ++ circle_element at radius paint) }
     {
@@ -141,7 +144,7 @@ impl Svg {
         self.out.push_str("/>\n")
     }
 
-    /// Draws a mark round a point, in its own tone.
+    /// Draws a mark round the point `at`, in the tone that the mark has.
     pub fn mark(&mut self, at: Point, mark: Mark) -> Result<(), AllocError>
         ensures { OnOk result (self.new ≡ self.old ++ mark_element at mark) }
     {

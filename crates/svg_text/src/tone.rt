@@ -5,9 +5,9 @@ ghost use Rattle.svg_text.specs.Words.{tone_word};
 /// What a colour says. A tone has one colour on light pages and one on dark pages, each with a contrast of 4.5 to 1 or more to the page.
 #[derive(Clone, Copy, PartialEq, Eq)]
 pub enum Tone {
-    /// What is said.
+    /// The main text and its lines.
     Ink,
-    /// What stands beside it.
+    /// What is less important than that, as a hint beside it.
     Quiet,
     /// Approved.
     Good,
@@ -17,12 +17,12 @@ pub enum Tone {
     Waiting,
     /// What belongs to one participant.
     Accent,
-    /// The page itself: text on what is filled.
+    /// The colour of the page itself, for text on a filled shape.
     Paper,
 }
 
 impl Tone {
-    /// The word of the style sheet.
+    /// The class of the style sheet for it.
     pub(crate) fn word(&self) -> &'static str
         ensures { result.now ≡ tone_word self.now }
     {

@@ -9,7 +9,8 @@ use Rattle.prepare_request.specs.declared.submit_fault.SubmitFault.TheVariants.{
 use Rattle.node_core.specs.declared.submit_refusal.SubmitRefusal.{SubmitRefusal}
 use Rattle.sync_shared.specs.Clients.{TicketValue}
 
--- the fault in the words of the world model; want of memory is none there
+-- A fault of the code as one of the world model. NotHosted, Command and Split say that the submission wants no request: there they are Unwanted. Want of
+-- memory is no fault there, so it is None.
 abbrev pub fault_of : SubmitFault → Option (r.SubmitFault SubmitFault)
 fault_of Paused = Some r.Paused
 fault_of (NotHosted party) = Some (r.Unwanted (NotHosted party))
@@ -19,21 +20,24 @@ fault_of (Duplicate place) = Some (r.Duplicate place)
 fault_of (LogFull reserved need) = Some (r.LogFull reserved need)
 fault_of Memory = None
 
+-- The refusal with this fault, in the world model, of a participant that had read `read_to` entries; None where there is no fault to tell, that is for
+-- want of memory.
 abbrev pub refused_at : (read_to : ℕ) → Option (r.SubmitFault SubmitFault) → Option (r.SubmitResult SubmitFault)
 refused_at read_to None = None
 refused_at read_to (Some fault) = Some (r.Refused fault read_to)
 
--- what a call answered, unless there was no memory
+-- What a call of `submit` answered, as a result of the world model: a ticket is Sent, and None is want of memory.
 abbrev pub answer_of : Result TicketValue SubmitRefusal → Option (r.SubmitResult SubmitFault)
 answer_of (Ok ticket) = Some (r.Sent ticket.place ticket.read_to)
 answer_of (Err refusal) = refused_at refusal.read_to (fault_of refusal.fault)
 
--- a ticket was given
+-- whether a call of `submit` gave a ticket
 abbrev pub has_ticket : Result TicketValue SubmitRefusal → Bool
 has_ticket (Ok ticket) = true
 has_ticket (Err refusal) = false
 
--- Why a request isn't appended, as its client is told. No request comes too late, and what a participant prepares is framed.
+-- What a client is told where the log refuses its request. Unframed and TooLate never come, since what a participant prepares is framed and no request
+-- comes too late.
 abbrev pub told_of : AppendFault → SubmitFault
 told_of (append.Already place) = Duplicate place
 told_of append.Unframed = Memory
@@ -41,8 +45,8 @@ told_of (append.LogFull reserved need) = LogFull reserved need
 told_of (append.TooLate decision time) = Memory
 told_of append.Memory = Memory
 
--- The entries that a client has seen once the log has refused its request: the whole log where this has the request already or no room for it,
--- and else those that it had seen before.
+-- The entries that a client has seen once the log has refused its request: the whole log where this has the request already or no room for it, and else
+-- `seen`, those that it had seen before.
 abbrev pub seen_after : AppendFault → (seen log : List Entry) → List Entry
 seen_after (append.Already place) seen log = log
 seen_after append.Unframed seen log = seen

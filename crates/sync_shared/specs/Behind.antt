@@ -21,13 +21,15 @@ use Rattle.prepare_request.specs.declared.submit_fault.SubmitFault.{SubmitFault}
 use Rattle.node_core.specs.Machines.{IsNodeOf}
 use Rattle.sync_shared.specs.SetUp.{IsSetUp}
 
--- behind the sequencer's lock: its history, its machine, and the log with the total of the book that counts what came in
+-- What holds of a sequencer behind its lock: it is of the history `row` and of the machine m, its log begins with `start`, the log when the sharing
+-- began, and `total` requests and Ticks have come in since.
 pub record IsLogBehind (row : RowName) (m : Machine) (start : List Entry) (total : ℕ) (sequencer : Sequenced) : Type 0 where
   pub in_row : sequencer.row ≡ row
   pub is_for : IsFor m sequencer
   pub behind : LogBehind m start total sequencer.list
 
--- behind the lock of participant p: a participant that has read this list, of which it has its inbox from its base on
+-- What holds of the node behind the lock of participant p: it has read this list of entries, which begins the log, and keeps its inbox of them from its
+-- base on.
 pub record IsNodeBehind (topology : Topology) (packages : Packages) (m : Machine) (why : Why SubmitFault) (bases : Bases) (p : ParticipantId)
     (list : List Entry) (node : NodeValue) : Type 0 where
   pub set_up : IsSetUp topology packages m why
@@ -45,12 +47,12 @@ pub record Mediating : Type 0 where
   pub list : List Entry
   pub kept : KeptMediator
 
--- behind the mediator's lock: a mediator that has read this list
+-- what holds of the mediator behind its lock: it has read this list of entries, which is a genuine log
 pub record IsMediatorBehind (m : Machine) (list : List Entry) (mediator : KeptMediator) : Type 0 where
   pub genuine : GenuineLog m list
   pub knows : Knows m list mediator
 
--- each of these nodes is, in order, the participant of its place, and has read a beginning of the log
+-- Each of these nodes, which stand in the order of the topology, is the participant with its index, and has read a beginning of the log.
 pub record AreNodesBehind (topology : Topology) (packages : Packages) (m : Machine) (why : Why SubmitFault) (bases : Bases) (log : List Entry)
     (nodes : List NodeValue) : Type 0 where
   pub each : (p : ParticipantId) (node : NodeValue) → slice_get nodes p ≡ Some node

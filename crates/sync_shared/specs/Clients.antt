@@ -5,14 +5,14 @@ use Rattle.canton_model.specs.Log.{request_at}
 use Rattle.world_model.specs.Messages.{Entry, Request}
 use Rattle.log_row.specs.LogPrefix.{RowName}
 
--- the entries that a client has seen, how many tickets it was given, and whose it is
+-- what contracts see of a client: the entries of the log that it has seen, how many tickets it was given, and whose client it is
 pub record Seen : Type 0 where
   pub list : List Entry
   pub tickets : ℕ
   pub me : ParticipantId
 
--- The history of a ticket, its entries as far as the request, the request's place, how many entries its participant had read when
--- it prepared the request, and whose it is.
+-- What contracts see of a ticket: the log's history, the entries up to the request and with it, the request's place, how many entries its participant had
+-- read when it prepared the request, and which participant that is.
 pub record TicketValue : Type 0 where
   pub row : RowName
   pub list : List Entry
@@ -20,7 +20,7 @@ pub record TicketValue : Type 0 where
   pub read_to : ℕ
   pub me : ParticipantId
 
--- a request of this participant is the last entry of the list, at this place
+-- a request of the participant `me` is the last entry of the list, and stands at this place
 pub record IsRequestBy (me : ParticipantId) (place : ℕ) (list : List Entry) : Type 0 where
   pub last : length list ≡ place + 1
   pub request : Request

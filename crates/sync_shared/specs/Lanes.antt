@@ -15,7 +15,8 @@ use Rattle.sync_shared.specs.declared.node_step.CopiedResponse.{CopiedResponse}
 use Rattle.sync_shared.specs.declared.node_step.NodeStep.{NodeStep}
 use Rattle.sync_shared.specs.declared.node_step.NodeStep.TheVariants.{Done, Check, Send}
 
--- Participant p has claimed the job, from its base on, over what is known, and its views are those to which it owes verdicts.
+-- Participant p has claimed the job, whose place isn't below its base, when it had read what the slip `known` ties; and the verdicts on the job's views
+-- are those that it owes there.
 pub record IsClaimed (row : RowName) (m : Machine) (bases : Bases) (p : ParticipantId) (c : ClaimedJob) : Type 0 where
   pub in_row : InRow row c.known
   pub left : 0 < c.job.left
@@ -23,12 +24,12 @@ pub record IsClaimed (row : RowName) (m : Machine) (bases : Bases) (p : Particip
   pub base : bases p ≤ c.job.given.place
   pub verdicts : owed_on_each c.job.given.input c.job.given.views ≡ owed_at m.reading m.params p (inbox m.reading p (read_to c.known)) c.job.given.place
 
--- the response is owed by what its participant had read when it was copied
+-- the response is owed by what its participant had read when the response was copied, that is what the slip `known` ties
 pub record IsCopied (row : RowName) (m : Machine) (c : CopiedResponse) : Type 0 where
   pub in_row : InRow row c.known
   pub owed : IsOwed m.reading m.params (read_to c.known) c.response
 
--- what is to be done outside participant p's lock is a job that it has claimed or a response that it owes, if it is anything
+-- What participant p has left to do outside its lock is so: nothing, the check of a job that it has claimed, or the sending of a response that it owes.
 abbrev pub IsStep : RowName → Machine → Bases → ParticipantId → NodeStep → Type 0
 IsStep row m bases p Done = Unit {0}
 IsStep row m bases p (Check claimed) = IsClaimed row m bases p claimed

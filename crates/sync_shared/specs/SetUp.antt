@@ -10,7 +10,8 @@ use Rattle.world_model.specs.Rounds.{Why}
 use Rattle.prepare_request.specs.declared.submit_fault.SubmitFault.{SubmitFault}
 use Rattle.node_core.specs.Machines.{machine_of, why_of}
 
--- The machine is that of the topology and the packages, the topology is valid, and the packages name only parties of it.
+-- The machine m is that of the topology and the packages, `why` tells why a submission to it wants no request, the topology is valid, and the packages
+-- name only parties of it.
 pub record IsSetUp (topology : Topology) (packages : Packages) (m : Machine) (why : Why SubmitFault) : Type 0 where
   pub machine_is : m ≡ machine_of topology packages m.capacity
   pub why_is : why ≡ why_of topology packages

@@ -5,23 +5,23 @@ use Rattle.world_model.specs.Machine.{Machine, GenuineLog}
 use Rattle.world_model.specs.Sequencing.{entry_after}
 use Rattle.log_row.specs.LogPrefix.{LogPrefix, RowName}
 
--- the entries that a slip ties, its own and all before it; none where there is no slip
+-- the entries that somebody's last slip ties, its own and all before it: those that were read; none where there is no slip
 abbrev pub read_to : Option LogPrefix → List Entry
 read_to None = []
 read_to (Some slip) = slip.list
 
--- the slip, if there is one, is of this history
+-- the slip is of this history, or there is none
 abbrev pub InRow : RowName → Option LogPrefix → Type 0
 InRow row last = IfSome last (λ slip. slip.row ≡ row)
 
--- the slip is of this history, and ties one entry more than these, of a genuine log
+-- The slip is what somebody who has read `list` reads next: it is of this history, and ties one entry more, of a genuine log.
 pub record IsNextIn (row : RowName) (m : Machine) (list : List Entry) (slip : LogPrefix) : Type 0 where
   pub in_row : slip.row ≡ row
   pub next : length slip.list ≡ length list + 1
   pub counted : length list < 2 ^ 64
   pub genuine : GenuineLog m slip.list
 
--- The log `after` is what was known of it, then maybe more, and as its last entry a Tick of this time. So this Tick wasn't known before.
+-- The log `after` is what was `known` of it, then maybe more, and as its last entry a Tick of the time `now`. So this Tick wasn't known before.
 pub record IsTicked (now : ℕ) (known after : List Entry) : Type 0 where
   pub more : List Entry
   pub is : after ≡ (known ++ more) ++ entry_after now (known ++ more) Tick ∷ []

@@ -33,7 +33,7 @@ impl<'r, S: Session> Model for Client<'r, S> {
 }
 
 impl<'r, S: Session> Client<'r, S> {
-    /// A client that has seen the entries that the slip ties.
+    /// A client of the participant `me` that has seen the entries that the slip `last` ties, and counts what it appends with the share.
     pub fn of(share: Share<S>, last: Option<Slip<'r>>, me: ParticipantId) -> Client<'r, S>
         requires row { InRow S.history last }
         requires parts { share.parts ≡ 1 }
@@ -43,7 +43,7 @@ impl<'r, S: Session> Client<'r, S> {
         Client { share, last, me }
     }
 
-    /// Its share, and the slip of the last entry that it has seen.
+    /// The client's share, and the slip of the last entry that it has seen, None where it has seen none.
     pub fn into_parts(self) -> (Share<S>, Option<Slip<'r>>)
         ensures parts { (result.0.parts ≡ 1) × (result.0.amount ≡ self.entry.tickets) }
         ensures slip { InRow S.history result.1 × (read_to result.1 ≡ self.entry.list) }
@@ -52,7 +52,7 @@ impl<'r, S: Session> Client<'r, S> {
         (share, last)
     }
 
-    /// Whose client it is.
+    /// The participant whose client it is.
     pub fn participant(&self) -> ParticipantId
         ensures me { result ≡ self.now.me }
         ensures host { result < length (S.topology).hosts }
@@ -60,14 +60,14 @@ impl<'r, S: Session> Client<'r, S> {
         self.me
     }
 
-    /// How many entries it has seen.
+    /// How many entries of the log the client has seen.
     pub fn seen(&self) -> u64
         ensures { result ≡ length self.now.list }
     {
         count_of(&self.last)
     }
 
-    /// From now on the client has seen at least the entries that the slip ties.
+    /// From now on the client has seen the entries that the slip ties.
     pub(crate) fn sees(&mut self, last: Option<Slip<'r>>)
         requires { InRow S.history last }
         ensures { self.new ≡ record self.old { list = read_to last.entry } }

@@ -40,7 +40,7 @@ impl<'r, S: Session> Model for LockedLog<'r, S> {
 }
 
 impl<'r, S: Session> LockedLog<'r, S> {
-    /// A sequencer with a book in which nothing is counted yet.
+    /// A sequencer, to lie behind a lock, with the book that counts what comes into its log.
     pub fn of(sequencer: Sequencer<'r>, count: Book<S>) -> LockedLog<'r, S>
         requires { IsLogBehind S.history S.machine S.start count.total sequencer }
         ensures { result ≡ sequencer.entry.list }
@@ -48,7 +48,7 @@ impl<'r, S: Session> LockedLog<'r, S> {
         LockedLog { sequencer, count }
     }
 
-    /// The sequencer, for whoever has all parts of the ledger.
+    /// The sequencer. `home` has to hold all shares of the book, so its amount is how many requests and Ticks have come in since the sharing began.
     pub fn close(self, home: &mut Share<S>) -> Sequencer<'r>
         requires { home.old.parts ≡ S.parts }
         ensures behind { IsLogBehind S.history S.machine S.start home.old.amount result }
@@ -62,7 +62,7 @@ impl<'r, S: Session> LockedLog<'r, S> {
         sequencer
     }
 
-    // Appends what comes in, and counts it with the share.
+    // Appends a request or a Tick, and counts it with the share.
     fn take_in(
         &mut self,
         share: &mut Share<S>,
@@ -91,7 +91,7 @@ impl<'r, S: Session> LockedLog<'r, S> {
         }
     }
 
-    /// Appends a client's request, and counts it with the client's share. After a refusal all is as before.
+    /// Appends a client's request, counts it with the client's share, and gives its slip. An Err says why it is refused; then all is as before.
     pub fn append(
         &mut self,
         share: &mut Share<S>,
@@ -112,7 +112,7 @@ impl<'r, S: Session> LockedLog<'r, S> {
         self.take_in(share, Message::Request(request), now)
     }
 
-    /// Appends a Tick, and counts it with the share. After want of memory all is as before.
+    /// Appends a Tick of the time `now`, counts it with the share, and gives its slip. After want of memory all is as before.
     pub fn tick(&mut self, share: &mut Share<S>, now: u64) -> Result<Slip<'r>, AllocError>
         requires parts { 0 < share.old.parts }
         requires now { now ≤ 10 ^ 16 }
@@ -128,7 +128,8 @@ impl<'r, S: Session> LockedLog<'r, S> {
         }
     }
 
-    /// Appends a response or a verdict, which isn't counted. One that stands in the log already, or comes too late, is dropped.
+    /// Appends a response or a verdict, which isn't counted. One that stands in the log already, or comes too late, is dropped. After want of memory all
+    /// is as before.
     pub fn answer(&mut self, message: Message) -> Result<(), AllocError>
         requires may { MayStand S.machine self.old message }
         requires answer { is_input message ≡ false }
@@ -148,7 +149,7 @@ impl<'r, S: Session> LockedLog<'r, S> {
         }
     }
 
-    /// The slip of a place, and none exactly where the log doesn't reach so far.
+    /// The slip of the entry at a place, and None exactly where the log doesn't reach so far.
     pub fn entry(&mut self, place: u64) -> Option<Slip<'r>>
         ensures same { self.new ≡ self.old }
         ensures some { IfSome result (λ slip. (place < length self.old) × (slip.row ≡ S.history) × (slip.list ≡ take (place + 1) self.old)
@@ -158,7 +159,7 @@ impl<'r, S: Session> LockedLog<'r, S> {
         self.sequencer.entry(place)
     }
 
-    /// The slip of the last entry.
+    /// The slip of the last entry, and None of an empty log.
     pub fn last(&mut self) -> Option<Slip<'r>>
         ensures same { self.new ≡ self.old }
         ensures row { InRow S.history result }
@@ -167,7 +168,7 @@ impl<'r, S: Session> LockedLog<'r, S> {
         last_of(&mut self.sequencer)
     }
 
-    /// Changes nothing. The prover learns from it that the slip's list begins the log.
+    /// Changes nothing. The prover learns from it that the entries that the slip ties begin the log.
     pub fn reaches_slip(&mut self, slip: &mut Slip<'r>)
         requires { slip.old.row ≡ S.history }
         ensures same { (self.new ≡ self.old) × (slip.new ≡ slip.old) }
@@ -176,7 +177,8 @@ impl<'r, S: Session> LockedLog<'r, S> {
         self.sequencer.reaches(slip);
     }
 
-    /// Changes nothing. The prover learns from it that what somebody has read begins the log, and that this is genuine and within its capacity.
+    /// Changes nothing. The prover learns from it that what somebody has read, up to the slip `last`, begins the log, and that the log is genuine and
+    /// within its capacity.
     pub fn reaches(&mut self, last: &mut Option<Slip<'r>>)
         requires { InRow S.history last.old }
         ensures same { (self.new ≡ self.old) × (last.new ≡ last.old) }
@@ -187,7 +189,7 @@ impl<'r, S: Session> LockedLog<'r, S> {
     }
 }
 
-/// The slip that ties so many entries of a log.
+/// The slip that ties the first `count` entries of a log, and None where `count` is 0.
 pub fn slip_to<'r>(sequencer: &mut Sequencer<'r>, count: u64) -> Option<Slip<'r>>
     requires { count ≤ length sequencer.old.list }
     ensures same { sequencer.new ≡ sequencer.old }
@@ -200,7 +202,7 @@ pub fn slip_to<'r>(sequencer: &mut Sequencer<'r>, count: u64) -> Option<Slip<'r>
     }
 }
 
-/// The slip of the last entry of a log.
+/// The slip of the last entry of a log, and None of an empty one.
 pub fn last_of<'r>(sequencer: &mut Sequencer<'r>) -> Option<Slip<'r>>
     ensures same { sequencer.new ≡ sequencer.old }
     ensures row { InRow sequencer.old.row result }
@@ -210,7 +212,7 @@ pub fn last_of<'r>(sequencer: &mut Sequencer<'r>) -> Option<Slip<'r>>
     slip_to(sequencer, count)
 }
 
-/// Changes nothing. The prover learns from it that what somebody has read begins the log.
+/// Changes nothing. The prover learns from it that what somebody has read, up to the slip `last`, begins the log.
 pub fn reached<'r>(sequencer: &mut Sequencer<'r>, last: &mut Option<Slip<'r>>)
     requires { InRow sequencer.old.row last.old }
     ensures same { (sequencer.new ≡ sequencer.old) × (last.new ≡ last.old) }

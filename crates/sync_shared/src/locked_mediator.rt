@@ -36,7 +36,7 @@ impl<'r, S: Session> Model for LockedMediator<'r, S> {
 }
 
 impl<'r, S: Session> LockedMediator<'r, S> {
-    /// A mediator with the slip of the last entry that it has read.
+    /// A mediator, to lie behind a lock, with the slip of the last entry that it has read, None where it has read none.
     pub fn of(mediator: Mediator, last: Option<Slip<'r>>) -> LockedMediator<'r, S>
         requires row { InRow S.history last }
         requires behind { IsMediatorBehind S.machine (read_to last) mediator }
@@ -49,6 +49,7 @@ impl<'r, S: Session> LockedMediator<'r, S> {
         }
     }
 
+    /// The mediator, and the slip of the last entry that it has read, None where it has read none.
     pub fn into_parts(self) -> (Mediator, Option<Slip<'r>>)
         ensures row { InRow S.history result.1 }
         ensures same { read_to result.1 ≡ self.entry.list }
@@ -62,14 +63,14 @@ impl<'r, S: Session> LockedMediator<'r, S> {
         (mediator, last)
     }
 
-    /// How many entries it has read.
+    /// How many entries the mediator has read.
     pub fn cursor(&self) -> u64
         ensures { result ≡ length self.now.list }
     {
         self.mediator.cursor()
     }
 
-    /// Reads the slip of the next place.
+    /// Reads the entry of the slip, which has to be that of the next place. After want of memory it wasn't read.
     pub fn read(&mut self, mut slip: Slip<'r>) -> Result<(), AllocError>
         requires row { slip.row ≡ S.history }
         requires next { length slip.list ≡ length self.old.list + 1 }
@@ -85,7 +86,7 @@ impl<'r, S: Session> LockedMediator<'r, S> {
         Ok(())
     }
 
-    /// The slip of the entry that it reads next, where it hasn't read the log to its end.
+    /// The slip of the entry that the mediator reads next, and None where it has read the log to its end.
     pub fn unread(&mut self, log: &mut LockedLog<'r, S>) -> Option<Slip<'r>>
         ensures same { (self.new ≡ self.old) × (log.new ≡ log.old) }
         ensures some { IfSome result (IsNextIn S.history S.machine self.old.list) }
@@ -93,7 +94,7 @@ impl<'r, S: Session> LockedMediator<'r, S> {
         log.entry(self.cursor())
     }
 
-    /// The slip of the last entry that it has read.
+    /// The slip of the last entry that the mediator has read, None where it has read none.
     pub fn last(&mut self) -> Option<Slip<'r>>
         ensures same { self.new ≡ self.old }
         ensures row { InRow S.history result }
@@ -102,7 +103,7 @@ impl<'r, S: Session> LockedMediator<'r, S> {
         again(&mut self.last)
     }
 
-    /// The decision on the first request that is settled over what was read, and whose verdict neither was taken nor read. It
+    /// The decision on the first request that is settled over what was read, and whose verdict neither was taken nor read; None where there is none. It
     /// counts as taken from then on, so over what was read each is taken once. After want of memory all is as before.
     pub fn take_verdict(&mut self) -> Result<Option<Verdict>, AllocError>
         ensures same { self.new.list ≡ self.old.list }

@@ -59,7 +59,7 @@ impl<'r, S: Session, const I: u8> Model for LockedNode<'r, S, I> {
 }
 
 impl<'r, S: Session, const I: u8> LockedNode<'r, S, I> {
-    /// A node with the slip of the last entry that it has read.
+    /// A node, to lie behind a lock, with the slip of the last entry that it has read, None where it has read none.
     pub fn of(alloc: Global, node: Node<'r>, last: Option<Slip<'r>>) -> LockedNode<'r, S, I>
         requires row { InRow S.history last }
         requires behind { IsNodeBehind S.topology S.packages S.machine S.why S.bases I (read_to last) node }
@@ -73,6 +73,7 @@ impl<'r, S: Session, const I: u8> LockedNode<'r, S, I> {
         }
     }
 
+    /// The node, and the slip of the last entry that it has read, None where it has read none.
     pub fn into_parts(self) -> (Node<'r>, Option<Slip<'r>>)
         ensures row { InRow S.history result.1 }
         ensures same { read_to result.1 ≡ self.entry }
@@ -87,7 +88,7 @@ impl<'r, S: Session, const I: u8> LockedNode<'r, S, I> {
         (node, last)
     }
 
-    /// How many entries it has read.
+    /// How many entries the node has read.
     pub fn cursor(&self) -> u64
         ensures cursor { result ≡ length self.now }
         ensures base { S.bases I ≤ result }
@@ -95,7 +96,7 @@ impl<'r, S: Session, const I: u8> LockedNode<'r, S, I> {
         self.node.cursor()
     }
 
-    /// Reads the slip of the next place.
+    /// Reads the entry of the slip, which has to be that of the next place. After want of memory it wasn't read.
     pub fn read(&mut self, mut slip: Slip<'r>) -> Result<(), AllocError>
         requires row { slip.row ≡ S.history }
         requires next { length slip.list ≡ length self.old + 1 }
@@ -109,7 +110,7 @@ impl<'r, S: Session, const I: u8> LockedNode<'r, S, I> {
         Ok(())
     }
 
-    /// The slip of the entry that it reads next, where it hasn't read the log to its end.
+    /// The slip of the entry that the node reads next, and None exactly where it has read the log to its end.
     pub fn unread(&mut self, log: &mut LockedLog<'r, S>) -> Option<Slip<'r>>
         ensures same { (self.new ≡ self.old) × (log.new ≡ log.old) }
         ensures some { IfSome result (IsNextIn S.history S.machine self.old) }
@@ -129,7 +130,7 @@ impl<'r, S: Session, const I: u8> LockedNode<'r, S, I> {
         log.reaches(&mut self.last);
     }
 
-    /// The slip of the last entry that it has read.
+    /// The slip of the last entry that the node has read, None where it has read none.
     pub fn last(&mut self) -> Option<Slip<'r>>
         ensures same { self.new ≡ self.old }
         ensures row { InRow S.history result }
@@ -138,8 +139,8 @@ impl<'r, S: Session, const I: u8> LockedNode<'r, S, I> {
         again(&mut self.last)
     }
 
-    /// The request that a submission wants over what was read. Whether submissions are taken is the round's matter, so the node's own
-    /// flag is cleared.
+    /// The request that a submission wants over what was read, or why it wants none; `now` is the round's time. Whether submissions are taken is the
+    /// round's matter, so the node's own flag is cleared, and the answer is never Paused.
     pub fn prepare(&mut self, what: &Submission, now: u64) -> Result<Request, SubmitFault>
         requires mine { what.now.participant ≡ I }
         requires named { AreKnown (is_hosted S.topology) (parties_in_what what.now.what) }
@@ -157,7 +158,7 @@ impl<'r, S: Session, const I: u8> LockedNode<'r, S, I> {
         prepared(self.alloc, &self.node, what, now)
     }
 
-    /// What became of a request of its own, from its base on, over what was read.
+    /// What became of the participant's own request at `place`, which isn't below its base, by what it has read.
     pub fn completion_of(&self, place: u64) -> Result<Completion, AllocError>
         requires base { S.bases I ≤ place }
         requires request { (list : _) × IsPrefix list self.now × IsRequestBy I place list }
@@ -167,7 +168,7 @@ impl<'r, S: Session, const I: u8> LockedNode<'r, S, I> {
         self.node.completion_of(place)
     }
 
-    /// Claims the first request that it owes verdicts to, and gives the job of checking it.
+    /// Claims the first request to which the participant owes verdicts, and gives the job of checking it; None where there is none to claim.
     pub fn claim_job(&mut self) -> Result<Option<ValidateJob<'r>>, AllocError>
         ensures same { self.new ≡ self.old }
         ensures left { IfOk result (λ o. IfSome o (λ job. 0 < job.left)) }
@@ -179,8 +180,8 @@ impl<'r, S: Session, const I: u8> LockedNode<'r, S, I> {
         self.node.claim_job(self.alloc)
     }
 
-    /// Puts the response of a job into the outbox, where the claim still stands, the request isn't decided and the node has read no
-    /// less than when it claimed the job. `known` is what it had read then.
+    /// Puts the response of the finished job into the outbox, where the claim still stands, the request isn't decided and the node has read no less than
+    /// when it claimed the job. Else nothing comes of the job. `known` is the slip of what it had read then.
     pub fn finish_job(&mut self, known: &mut Option<Slip<'r>>, done: Finished)
         requires row { InRow S.history known.old }
         requires claimed { Claimed S.machine I (read_to known.old) done.place }
@@ -194,8 +195,8 @@ impl<'r, S: Session, const I: u8> LockedNode<'r, S, I> {
         }
     }
 
-    /// The place since when the request of a job is decided, where it is decided by what was read and that is no less than when the
-    /// job was claimed. `known` is what was read then.
+    /// The place since when the request at `place`, which was claimed, is decided by what was read. None where it isn't decided, or less was read than
+    /// when its job was claimed; `known` is the slip of what was read then.
     pub fn decided_at(&mut self, known: &mut Option<Slip<'r>>, place: u64) -> Option<u64>
         requires row { InRow S.history known.old }
         requires claimed { Claimed S.machine I (read_to known.old) place }
@@ -208,14 +209,14 @@ impl<'r, S: Session, const I: u8> LockedNode<'r, S, I> {
         self.node.decided_at(place)
     }
 
-    /// A copy of the response that is sent next, which is owed over what was read.
+    /// A copy of the response that is sent next, which is owed over what was read; None where nothing waits.
     pub fn outbox(&self) -> Result<Option<Response>, AllocError>
         ensures { IfOk result (λ o. IfSome o (IsOwed S.machine.reading S.machine.params self.now)) }
     {
         self.node.outbox(self.alloc)
     }
 
-    /// Takes the response to a request out of the outbox.
+    /// Takes the response to the request at the place `request` out of the outbox.
     pub fn sent(&mut self, request: u64)
         ensures same { self.new ≡ self.old }
     {

@@ -27,8 +27,8 @@ pub struct LockedNodes<'r, S: Session> {
 }
 
 impl<'r, S: Session> LockedNodes<'r, S> {
-    /// Puts each node behind a lock, without memory. The sequencer gives the slips of what they have read, and `alloc` is what their
-    /// calls allocate from.
+    /// Puts each node behind a lock, without memory. The sequencer gives the slips of what the nodes have read, and `alloc` is what their calls allocate
+    /// from.
     pub fn of(
         alloc: Global,
         nodes: Vec<Node<'r>>,
@@ -62,7 +62,7 @@ impl<'r, S: Session> LockedNodes<'r, S> {
         }
     }
 
-    /// The nodes in order, without memory. What each has read begins the log.
+    /// Takes the nodes out of their locks, without memory; they stand in the order of the topology. What each has read begins the log.
     #[tactic(auto, using(crate::proofs::NodeLists::no_nodes))]
     pub fn into_nodes(self, sequencer: &mut Sequencer<'r>) -> Vec<Node<'r>>
         requires { sequencer.old.row ≡ S.history }

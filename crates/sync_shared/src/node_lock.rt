@@ -11,7 +11,7 @@ use seq_log::Sequencer;
 use std::alloc::Global;
 use std::sync::Mutex;
 
-/// The lock of participant `I`, exactly where the topology has so many.
+/// The lock of participant `I`, with its node exactly where the topology has such a participant.
 #[derive(Drop)]
 pub struct NodeLock<'r, S: Session, const I: u8> {
     pub node: Option<Mutex<LockedNode<'r, S, I>>>,
@@ -20,7 +20,8 @@ pub struct NodeLock<'r, S: Session, const I: u8> {
 }
 
 impl<'r, S: Session, const I: u8> NodeLock<'r, S, I> {
-    /// The last of these nodes goes behind a lock, where there are so many. The sequencer gives the slip of what it has read.
+    /// Takes the node of participant `I` from the end of `nodes` and puts it behind a lock; the lock is empty where the topology has no such participant.
+    /// The sequencer gives the slip of what the node has read.
     pub fn of(
         alloc: Global,
         nodes: &mut Vec<Node<'r>>,
@@ -39,7 +40,8 @@ impl<'r, S: Session, const I: u8> NodeLock<'r, S, I> {
         }
     }
 
-    /// The node stands behind these, where there is one.
+    /// Takes the node out of its lock and puts it at the end of `nodes`; an empty lock adds nothing. The prover learns from the sequencer that what the
+    /// node has read begins the log.
     pub fn put_back(self, nodes: &mut Vec<Node<'r>>, sequencer: &mut Sequencer<'r>)
         requires nodes { AreNodesBehind S.topology S.packages S.machine S.why S.bases sequencer.old.list nodes.old.items }
         requires row { sequencer.old.row ≡ S.history }

@@ -17,7 +17,7 @@ pub struct CopiedResponse<'r> {
     pub known: Option<Slip<'r>>,
 }
 
-/// What is left to be done outside the participant's lock.
+/// What a participant has left to do outside its lock: nothing, the check of a job, or the sending of a response.
 #[derive(Drop)]
 pub enum NodeStep<'r> {
     Done,

@@ -16,7 +16,7 @@ use ledger_terms::Submission;
 use node_core::{Node, SubmitFault};
 use std::alloc::Global;
 
-/// The request that a submission wants, as the language says, with no natives.
+/// The request that a submission wants of the node, over what this has read, or why it wants none. No natives are asked. `now` is the round's time.
 pub(crate) fn prepared(
     alloc: Global,
     node: &Node<'_>,

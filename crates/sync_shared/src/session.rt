@@ -3,9 +3,9 @@ use log_row::Row;
 use std::marker::Brand;
 use std::sync::ledger::Ledger;
 
-/// Names a sharing of one synchroniser: its history, the ledger of what comes into the log, the topology, the packages, the
-/// machine, why submissions want no request, the bases of the participants, which no call changes, and the log when the sharing
-/// began. A function that is generic in it is called with `Brand`, and the call picks these.
+/// Names a sharing of one synchroniser: its history, the book of what comes into the log, the topology, the packages, the machine, why submissions want
+/// no request, the bases of the participants, which no call changes, and the log when the sharing began. A function that is generic in it is called with
+/// `Brand`, and the call picks these.
 pub trait Session: Row + Ledger {
     ghost use Rattle.std.specs.Prelude.{List};
     ghost use Rattle.ledger_terms.specs.declared.topology.Topology.{Topology};

@@ -57,7 +57,7 @@ fn names(participants: &[ParticipantId], p: ParticipantId) -> bool
 }
 
 impl<'r, S: Session> Shared<'r, S> {
-    /// Puts the parts behind locks, without memory. What comes in is counted by the book. In the round nobody is paused and no verdicts
+    /// Puts the parts behind locks, without memory. What comes into the log is counted by the book `count`. In the round nobody is paused and no verdicts
     /// are held. `alloc` is what calls allocate from.
     pub fn of(alloc: Global, parts: SyncParts<'r>, count: Book<S>) -> Shared<'r, S>
         requires most { length (S.topology).hosts ≤ 8 }
@@ -89,8 +89,8 @@ impl<'r, S: Session> Shared<'r, S> {
         }
     }
 
-    /// The parts, without memory. What came in is counted by whoever has all parts of the ledger, and what the mediator and each
-    /// participant have read begins the log.
+    /// Takes the parts out of their locks, without memory. `home` has to hold all shares of the book, so its amount is how many requests and Ticks have
+    /// come in. What the mediator and each participant have read begins the log.
     pub fn into_parts(self, home: &mut Share<S>) -> SyncParts<'r>
         requires { home.old.parts ≡ S.parts }
         ensures log { IsLogBehind S.history S.machine S.start home.old.amount result.sequencer }
@@ -117,8 +117,8 @@ impl<'r, S: Session> Shared<'r, S> {
         }
     }
 
-    /// Begins a round. Where time moved on, a Tick tells of it, and is counted with the share. `known` is a slip of the log, and the
-    /// Tick's then. After want of memory all is as before.
+    /// Begins a round with these rules. With `has_tick` a Tick of its time is appended, and counted with the share `home`. `known` is the slip of some
+    /// entry of the log, None for none, and becomes the Tick's. After want of memory all is as before.
     pub fn begin(
         &mut self,
         home: &mut Share<S>,
@@ -146,15 +146,16 @@ impl<'r, S: Session> Shared<'r, S> {
         Ok(())
     }
 
-    /// Whether the round has the participant as paused.
+    /// Whether the participant is paused in the round.
     pub fn is_paused(&self, participant: ParticipantId) -> bool
         ensures { result ≡ has_place self.now.round.paused participant }
     {
         names(self.round.paused.as_slice(), participant)
     }
 
-    /// Submits for the client's participant, which first reads at least what the client has seen. A paused one doesn't read. After
-    /// want of memory nothing was appended.
+    /// Submits for the client's participant, which first reads at least what the client has seen. A paused one doesn't read, and refuses as Paused. The
+    /// ticket is that of the request that was appended; an Err says why none was, and how many entries had been read. After want of memory nothing was
+    /// appended. `rt` is what the thread waits by at the locks.
     pub fn submit<R: Wait>(
         &self,
         rt: &R,
@@ -185,8 +186,8 @@ impl<'r, S: Session> Shared<'r, S> {
         submit_awake(rt, &self.log, &self.nodes, client, what, self.round.time)
     }
 
-    /// What became of a ticket's request, from its participant's base on. The participant, paused or not, first reads at least what the
-    /// client has seen and past the request.
+    /// What became of a ticket's request, whose place isn't below its participant's base. The participant, paused or not, first reads at least what the
+    /// client has seen and past the request, and the client has then seen as much. After want of memory the client has seen no more.
     pub fn completion<R: Wait>(
         &self,
         rt: &R,
@@ -207,13 +208,13 @@ impl<'r, S: Session> Shared<'r, S> {
         complete(rt, &self.log, &self.nodes, client, ticket)
     }
 
-    /// A turn of one of so many lanes. Lane w serves the participants whose index leaves w, and lane 0 the mediator too. Each that
-    /// isn't paused reads to the end of the log, and then checks one request or, where it owes nothing, sends one response; the mediator
-    /// reads to the end and, unless verdicts are held, sends one verdict. The turn tells whether anything was checked or sent, after
-    /// which more may be left to be done. The gate is passed before each view, outside every lock, with the request's place and the
-    /// number of its views that were checked before. After each view the participant is asked whether the request is decided by what it
-    /// has read. Where it is, the check ends there, and nothing comes of it but the claim. A number for an executor comes by chance, and
-    /// a turn that gets none ends as for want of memory.
+    /// A turn of lane `lane` of `lanes`, which serves the participants whose index has the remainder `lane` when it is divided by `lanes`; lane 0 serves
+    /// the mediator too. Each that isn't paused reads to the end of the log, and then checks one request or, where it owes nothing, sends one response;
+    /// the mediator reads to the end and, unless verdicts are held, sends one verdict. The result is whether anything was checked or sent, after which
+    /// more may be left to be done.
+    /// The gate is passed before each view, outside every lock, with the request's place and the number of its views that were checked before. After each
+    /// view the participant is asked whether the request is decided by what it has read. Where it is, the check ends there, and nothing comes of it but
+    /// the claim. A number for an executor comes by chance, and a turn that gets none ends as for want of memory.
     pub fn turn<R: Wait + RandomSource + AllocGlobal, G: Gate>(
         &self,
         rt: &R,

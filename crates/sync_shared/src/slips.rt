@@ -5,7 +5,7 @@ ghost use mathlib.Core.List.{IsPrefix};
 
 use log_row::{Row, Slip};
 
-/// The last slip once more.
+/// A second slip of the same entry; None where there is none.
 pub fn again<'r>(last: &mut Option<Slip<'r>>) -> Option<Slip<'r>>
     ensures same { last.new ≡ last.old }
     ensures again { result ≡ last.old }
@@ -16,7 +16,7 @@ pub fn again<'r>(last: &mut Option<Slip<'r>>) -> Option<Slip<'r>>
     }
 }
 
-/// How many entries it ties.
+/// How many entries the slip ties, which is how many were read; 0 where there is none.
 pub fn count_of(last: &Option<Slip<'_>>) -> u64
     ensures { result ≡ length (read_to last.now) }
 {
@@ -26,7 +26,7 @@ pub fn count_of(last: &Option<Slip<'_>>) -> u64
     }
 }
 
-/// Changes nothing. The prover learns from it that what was read begins the list of the slip of the next place.
+/// Changes nothing. The prover learns from it that what was read, up to the slip `last`, begins the list of `slip`, which is that of the next place.
 pub fn tie<'r>(last: &mut Option<Slip<'r>>, slip: &mut Slip<'r>)
     requires row { InRow slip.old.row last.old }
     requires next { length slip.old.list ≡ length (read_to last.old) + 1 }
@@ -38,6 +38,7 @@ pub fn tie<'r>(last: &mut Option<Slip<'r>>, slip: &mut Slip<'r>)
     }
 }
 
+// Whether the entry of `known` isn't behind that of `last`.
 fn follows_slip<'r>(known: &mut Slip<'r>, last: &mut Slip<'r>) -> bool
     requires { last.old.row ≡ known.old.row }
     ensures same { (known.new ≡ known.old) × (last.new ≡ last.old) }
@@ -47,7 +48,8 @@ fn follows_slip<'r>(known: &mut Slip<'r>, last: &mut Slip<'r>) -> bool
     known.place() <= last.place()
 }
 
-/// Whether what was known once begins what is read by now, as far as the two slips tell.
+/// Whether what somebody had read once, up to the slip `known`, begins what it has read by now, up to `last`; the places of the slips tell. Where `known`
+/// is None nothing had been read, so it is true.
 pub fn follows<'r, S: Row>(known: &mut Option<Slip<'r>>, last: &mut Option<Slip<'r>>) -> bool
     requires known { InRow S.history known.old }
     requires last { InRow S.history last.old }

@@ -225,7 +225,9 @@ fn submit_at<'r, S: Session, R: Wait, const I: u8>(
     submit_locked(rt, log, &mut *node, client, what, now)
 }
 
-/// A submission of the client's participant, which isn't paused.
+/// Submits for the client's participant, which isn't paused: this reads at least what the client has seen, and the request that the submission wants is
+/// handed in. An Err says why none was sent, and how many entries had been read. `rt` is what the thread waits by at the locks, and `now` the round's
+/// time.
 pub fn submit_awake<'r, S: Session, R: Wait>(
     rt: &R,
     log: &Mutex<LockedLog<'r, S>>,

@@ -30,6 +30,7 @@ impl<'r> Model for Ticket<'r> {
 }
 
 impl<'r> Ticket<'r> {
+    /// A ticket for the request whose slip this is. `read_to` is how many entries its participant `me` had read when it prepared it.
     pub(crate) fn of(slip: Slip<'r>, read_to: u64, me: ParticipantId) -> Ticket<'r>
         requires { (place : _) × IsRequestBy me place slip.list }
         ensures slip { (result.row ≡ slip.entry.row) × (result.list ≡ slip.entry.list) }
@@ -54,7 +55,7 @@ impl<'r> Ticket<'r> {
         log.reaches_slip(&mut self.slip);
     }
 
-    /// Where the request stands.
+    /// The place of the request in the log.
     pub fn place(&self) -> u64
         ensures place { result ≡ self.now.place }
         ensures request { IsRequestBy self.now.me result self.now.list }
@@ -69,7 +70,7 @@ impl<'r> Ticket<'r> {
         self.read_to
     }
 
-    /// Whose request it is.
+    /// The participant whose request it is.
     pub fn participant(&self) -> ParticipantId
         ensures { result ≡ self.now.me }
     {

@@ -75,7 +75,8 @@ impl<'a, 'r, S: Session, R: Wait, G: Gate, const I: u8> Future for WatchedJob<'a
     }
 }
 
-/// Runs a job to its end, and cancels it once its participant has read that the request is decided. Then nothing comes of it.
+/// Checks all views of the job that participant `I` has claimed, and gives the verdicts on them. The job is cancelled once its participant has read that
+/// the request is decided: then the result is None, and nothing comes of the job but its claim. The gate is passed before each view.
 pub fn run_job<'r, S: Session, R: Wait + RandomSource + AllocGlobal, G: Gate, const I: u8>(
     rt: &R,
     lock: &Mutex<LockedNode<'r, S, I>>,

@@ -11,14 +11,16 @@ use Rattle.trigger_rules.specs.Ids.{is_rule_command}
 use Rattle.trigger_rules.specs.Answers.{Answers}
 use Rattle.trigger_model.specs.CausedRun.{CausedHolds, FiredRound}
 
+-- the submissions of what rules caused, in order
 abbrev pub submissions_in : List Caused → List Submission
 submissions_in caused = map (λ (one : Caused). one.submission) caused
 
--- a round of a run as rules see it
+-- A round of a run as rules see it, with its number, its time `now` and what the rules caused in it.
 abbrev pub fired_round : {F : Type 0} → (number now : ℕ) → RoundParts F → List Caused → FiredRound
 fired_round number now x caused = record { number = number; now = now; paused = x.round.paused; end = x.end; caused = caused }
 
--- Both lists are of the same rounds, the first of which has this number. `now` is the time of the round before it.
+-- Both lists are of the same rounds, of which the first has this number, and what was caused in each was submitted as its second part. `now` is the
+-- time of the round before the first.
 abbrev pub AreRounds : {F : Type 0} → (number now : ℕ) → List (RoundParts F) → List FiredRound → Type 0
 AreRounds number now [] [] = Unit {0}
 AreRounds number now [] (y ∷ ys) = ⊥
@@ -27,14 +29,16 @@ AreRounds number now (x ∷ xs) (y ∷ ys) =
     (y ≡ fired_round number (now + x.round.advance) x y.caused) × (x.caused ≡ submissions_in y.caused)
     × AreRounds (suc number) (now + x.round.advance) xs ys
 
--- no submission and no raw request has an id that is kept for rules
+-- No submission and no raw request of the round has an id that is kept for one of these rules.
 pub record HasOwnIds {F : Type 0} (rules : List Rule) (x : RoundParts F) : Type 0 where
   pub submits : All (λ (what : Submission). is_rule_command rules what.participant what.command ≡ false) x.round.submits
   pub raws : All (λ (request : Request). is_rule_command rules request.sender request.command ≡ false) x.round.raws
 
--- A run with rules: a run in parts, whose second parts hand in what the rules caused.
+-- A run with rules: a run in parts, whose second parts hand in what the rules caused. `may` tells what a rule may be answered on a contract, and
+-- `fired` has each round as rules see it.
 pub record RunWithRules {F : Type 0} (m : Machine) (why : Why F) (may : Answers) (rules : List Rule) (log : List Entry) (rounds : List (RoundParts F))
     (fired : List FiredRound) : Type 0 where
   pub run : RunInParts m why log rounds
+  -- the rounds of the run and those that the rules saw are the same
   pub same : AreRounds 0 0 rounds fired
   pub causes : CausedHolds may rules m.reading m.params log fired

@@ -14,8 +14,8 @@ use Rattle.trigger_rules.specs.declared.rule.Rule.{Rule}
 use Rattle.trigger_rules.specs.Answers.{Answers, IsExerciseOf}
 use Rattle.trigger_rules.specs.Firing.{Fires, caused_by, contracts_of, has_fired}
 
--- A round as rules see it: its number, its time, who is paused, the length of the log once its own submissions had settled, and
--- what rules caused then.
+-- A round as rules see it: its number, its time, who is paused, the length of the log once its own submissions had settled (`end`), and what rules
+-- caused then.
 pub record FiredRound : Type 0 where
   pub number : ℕ
   pub now : ℕ
@@ -23,27 +23,29 @@ pub record FiredRound : Type 0 where
   pub end : ℕ
   pub caused : List Caused
 
+-- all that rules caused in these rounds, in order
 abbrev pub all_caused : List FiredRound → List Caused
 all_caused rounds = flat_map (λ (round : FiredRound). round.caused) rounds
 
--- whether the rule with this name caused it
+-- whether the rule with this name caused this
 abbrev pub is_by : (name : List ℕ) → Caused → Bool
 is_by name one = bytes_eq one.rule name
 
--- the contracts on which the rule of a name fired
+-- the ids of the contracts on which the rule of this name fired, of what was caused here
 abbrev pub fired_on : (name : List ℕ) → List Caused → List (List ℕ)
 fired_on name caused = contracts_of (filter (is_by name) caused)
 
--- the contracts that are active at a participant's clean place when it has read so many items
+-- the active contracts of participant p at its clean place when it has read the first n entries of the log
 abbrev pub active_at_clean : Reading → Params → ParticipantId → (n : ℕ) → List Entry → List ActiveRow
 active_at_clean reading params p n log = node_active reading p (inbox reading p (take n log)) (clean params (inbox reading p (take n log)))
 
--- how many entries a participant has read when rules are asked in a round: all, unless it is paused
+-- Participant p has read n entries when rules are asked in this round: all that the log had then, or if it is paused at most these.
 pub record HasReadTo (round : FiredRound) (p : ParticipantId) (n : ℕ) : Type 0 where
   pub at_most : n ≤ round.end
   pub awake : has_place round.paused p ≡ false → n ≡ round.end
 
--- One rule after another is asked about the active contracts of its participant. `earlier` was caused in the rounds before.
+-- In this round these rules are asked one after another about the active contracts of their participants, and caused `caused`. `earlier` was caused
+-- in the rounds before, so that no rule fires on its contracts again.
 abbrev pub RulesFire : Answers → Reading → Params → List Entry → FiredRound → (earlier : List Caused) → List Rule → (caused : List Caused) → Type 0
 RulesFire may reading params log round earlier [] caused = caused ≡ []
 RulesFire may reading params log round earlier (rule ∷ rules) caused =
@@ -51,24 +53,25 @@ RulesFire may reading params log round earlier (rule ∷ rules) caused =
     × Fires may rule round.number round.now (fired_on rule.name earlier) (active_at_clean reading params rule.participant n log) own
     × RulesFire may reading params log round earlier rules others
 
--- in each of the rounds, which follow one another, the rules fire so; `earlier` was caused in the rounds before these
+-- In each of these rounds, which follow one another, the rules fire as `RulesFire` has it. `earlier` was caused in the rounds before these.
 abbrev pub RoundsFire : Answers → Reading → Params → List Entry → List Rule → (earlier : List Caused) → List FiredRound → Type 0
 RoundsFire may reading params log rules earlier [] = Unit {0}
 RoundsFire may reading params log rules earlier (round ∷ rounds) =
     RulesFire may reading params log round earlier rules round.caused × RoundsFire may reading params log rules (earlier ++ round.caused) rounds
 
--- no rule fired twice on one contract
+-- no rule fired twice on one contract, of all that is listed here
 abbrev pub AreOnce : List Caused → Type 0
 AreOnce caused = (i j : ℕ) (a b : Caused) → slice_get caused i ≡ Some a → slice_get caused j ≡ Some b → a.rule ≡ b.rule → a.contract ≡ b.contract → i ≡ j
 
--- One of what was caused in a round: a rule fired on a contract that was active at its participant's clean place, with a command
--- that may be answered and exercises that contract, for the rule's party.
+-- One thing that was caused in a round is right: a rule fired on a contract that was active at its participant's clean place, with a command that
+-- may be answered and exercises that contract, for the rule's party.
 pub record IsCausedIn (may : Answers) (rules : List Rule) (reading : Reading) (params : Params) (log : List Entry) (round : FiredRound)
     (one : Caused) : Type 0 where
   pub rule : Rule
   pub is_rule : Contains rules rule
   pub read_to : ℕ
   pub has_read : HasReadTo round rule.participant read_to
+  -- the contract on which it fired
   pub row : ActiveRow
   pub active : Contains (active_at_clean reading params rule.participant read_to log) row
   pub before : ℕ  -- how often the rule fired before
@@ -77,8 +80,8 @@ pub record IsCausedIn (may : Answers) (rules : List Rule) (reading : Reading) (p
   pub answered : may rule.name row.known (Ok (Some command))
   pub exercises : IsExerciseOf row.known command
 
--- What holds of what rules caused in a run: no rule fired twice on a contract, each had a contract and a command for it, and no active
--- contract was passed over.
+-- What rules caused in a run is right: no rule fired twice on a contract, each time there was a contract and a command for it, and no active
+-- contract was passed over. `may` tells what a rule may be answered on a contract.
 pub record CausedHolds (may : Answers) (rules : List Rule) (reading : Reading) (params : Params) (log : List Entry) (rounds : List FiredRound) : Type 0 where
   pub once : AreOnce (all_caused rounds)
   pub each : (round : FiredRound) (one : Caused) → Contains rounds round → Contains round.caused one → IsCausedIn may rules reading params log round one
@@ -90,8 +93,8 @@ pub record CausedHolds (may : Answers) (rules : List Rule) (reading : Reading) (
       → has_fired (fired_on rule.name (all_caused before)) (row.known).id ≡ false
       → ((one : Caused) × Contains round.caused one × (one.rule ≡ rule.name) × (one.contract ≡ (row.known).id)) ⊎ may rule.name row.known (Ok None)
 
--- So many of the rules were asked in a round, and this was caused. `fired` tells of each rule, by its number, on which contracts
--- it has fired.
+-- The first `count` of the rules were asked in a round, and they caused `caused`. `fired` tells of each rule, by its place in the list, on which
+-- contracts it has fired; it serves to ask one rule after another.
 pub record AreAskedSo (may : Answers) (reading : Reading) (params : Params) (log : List Entry) (round : FiredRound) (earlier : List Caused)
     (rules : List Rule) (fired : ℕ → List (List ℕ)) (count : ℕ) (caused : List Caused) : Type 0 where
   pub fires : RulesFire may reading params log round earlier (take count rules) caused

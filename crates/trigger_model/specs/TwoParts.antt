@@ -6,42 +6,45 @@ use Rattle.world_model.specs.Messages.{Entry}
 use Rattle.world_model.specs.Machine.{Machine}
 use Rattle.world_model.specs.Rounds.{Round, Results, RoundAnswers, RunHolds, Sent, Refused, Why}
 
--- A round with the results of its submissions and the length of the log then, and with the results of the submissions that were
--- caused in it and the length of the log at its end.
+-- A round with its two parts, of a run with rules.
 pub record RoundParts (F : Type 0) : Type 0 where
   pub round : Round
+  -- the results of its own submissions, and the length of the log at the end of the first part
   pub results : Results F
   pub end : ℕ
+  -- what rules caused in it, with the results, and the length of the log at the end of the second part
   pub caused : List Submission
   pub caused_results : Results F
   pub caused_end : ℕ
 
--- The second part of a round as a round of its own: no time passes, no raw request comes, and pauses and held verdicts are the round's.
+-- The second part of a round as a round of its own: no time passes, no raw request comes, and pauses and held verdicts are the round's. `caused` are
+-- its submissions.
 abbrev pub second_round : Round → List Submission → Round
 second_round round caused =
     record { advance = 0; paused = round.paused; holds_verdicts = round.holds_verdicts; raws = []; submits = caused }
 
--- both parts of a round, each as a round with its results
+-- the two parts of a round, each as a round with its results and its end
 abbrev pub both_parts : {F : Type 0} → RoundParts F → List (RoundAnswers F)
 both_parts x =
     record { round = x.round; results = x.results; end = x.end }
     ∷ record { round = second_round x.round x.caused; results = x.caused_results; end = x.caused_end } ∷ []
 
+-- the parts of these rounds, two a round, in order
 abbrev pub parts_of : {F : Type 0} → List (RoundParts F) → List (RoundAnswers F)
 parts_of rounds = flat_map both_parts rounds
 
--- the requests of the Sent results stand one after another from a place on, in order
+-- The requests of the Sent results stand one after another in the log, from the place `start` on, in order.
 abbrev pub StandInOrder : {F : Type 0} → (start : ℕ) → Results F → Type 0
 StandInOrder start [] = Unit {0}
 StandInOrder start ((what, Sent place read_to) ∷ rest) = (place ≡ start) × StandInOrder (suc start) rest
 StandInOrder start ((what, Refused fault read_to) ∷ rest) = StandInOrder start rest
 
--- in each round what was caused stands first in its part
+-- in each of these rounds what rules caused stands first in its second part, in order
 abbrev pub CausedStandFirst : {F : Type 0} → List (RoundParts F) → Type 0
 CausedStandFirst [] = Unit {0}
 CausedStandFirst (x ∷ rest) = StandInOrder x.end x.caused_results × CausedStandFirst rest
 
--- The log is that of a run, cut at two ends a round, and what was caused stands first in its part.
+-- A run in parts: the log is right as that of a run, cut at two ends a round, and what rules caused stands first in its part.
 pub record RunInParts {F : Type 0} (m : Machine) (why : Why F) (log : List Entry) (rounds : List (RoundParts F)) : Type 0 where
   pub run : RunHolds m why log (parts_of rounds)
   pub first : CausedStandFirst rounds

@@ -19,7 +19,7 @@ ghost use Rattle.trigger_model.specs.CausedRun.{active_at_clean, all_caused, fir
 
 use trigger_rules::Answering;
 
-/// One thread's rounds of two parts are a run in parts.
+/// Rounds of two parts, as one thread plays them from the empty log on, are a run in parts.
 pub fn one_thread_parts<F>()
     ensures { (m : Machine) (why : Why F) (rounds : List (RoundParts F)) (log : List Entry)
         → IsMachine m
@@ -27,7 +27,7 @@ pub fn one_thread_parts<F>()
         → RunInParts m why log rounds }
 {}
 
-/// Rules that are asked round after round cause what is said of a run.
+/// Where rules are asked round after round, what they cause is right as a run says it (`CausedHolds`). `answer` is who answers for the rules.
 pub fn rules_cause<A: Answering>()
     ensures { (answer : A) (rules : List Rule) (reading : Reading) (params : Params) (log : List Entry) (rounds : List FiredRound)
         → AreNamed rules
@@ -35,8 +35,8 @@ pub fn rules_cause<A: Answering>()
         → CausedHolds (A.may_answer answer) rules reading params log rounds }
 {}
 
-/// Each request of a run with rules whose id is kept for a rule of its sender is that of something which a rule caused, where
-/// neither submissions nor raw requests have such an id.
+/// Each request of a run with rules whose id is kept for a rule of its sender is that of something that a rule caused, where neither submissions nor
+/// raw requests have such an id.
 pub fn requests_are_caused<F, A: Answering>()
     ensures { (m : Machine) (why : Why F) (answer : A) (rules : List Rule) (log : List Entry) (rounds : List (RoundParts F)) (fired : List FiredRound)
         (k : ℕ) (request : Request)
@@ -49,7 +49,7 @@ pub fn requests_are_caused<F, A: Answering>()
         × (read_to : ℕ) × Contains x.caused_results (one.submission, Sent k read_to) }
 {}
 
-/// No rules cause nothing; and one more rule that is asked behind others adds what it causes to what they caused.
+/// No rules cause nothing (`none`); and one more rule that is asked behind others adds what it causes to what they caused (`more`).
 pub fn rules_one_by_one<A: Answering>()
     ensures none { (answer : A) (reading : Reading) (params : Params) (log : List Entry) (round : FiredRound) (earlier : List Caused)
         → RulesFire (A.may_answer answer) reading params log round earlier [] [] }
@@ -80,7 +80,7 @@ pub fn fires_are_noted<A: Answering>()
         → fired_on name (before ++ own) ≡ fired_on name before }
 {}
 
-/// What rules caused over a log they caused over every longer one.
+/// What rules caused in a round over a log that had its end they caused over every longer one.
 pub fn fires_stay<A: Answering>()
     ensures { (answer : A) (reading : Reading) (params : Params) (log more : List Entry) (round : FiredRound) (earlier : List Caused)
         (rules : List Rule) (caused : List Caused)

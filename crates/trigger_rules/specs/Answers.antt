@@ -1,4 +1,4 @@
--- What may be answered for a rule about a contract: an exercise of it, or none.
+-- What may be answered for a rule about a contract: an exercise of it (a command), None, by which nothing is done, or want of memory.
 use Rattle.std.specs.Prelude.{◌≡◌, ℕ, ◌≤◌, List, Result, Option, Ok, Some, All, length}
 use Rattle.std.specs.declared.alloc.AllocError.{AllocError}
 use Rattle.ledger_terms.specs.Parties.{has_party}
@@ -15,29 +15,29 @@ use Rattle.lang_eval.specs.HandedIn.{parties_in_args}
 use Rattle.lang_eval.specs.Named.{AreKnown, parties_in_instance}
 use denote.Ref.{Bor}
 
--- for a rule's name and a contract, an answer that may be given
+-- A statement of who answers for rules: for a rule's name, a contract and an answer, that this answer may be given.
 abbrev pub Answers : Type 1
 Answers = List ℕ → Known → Result (Option Command) AllocError → Type 0
 
--- the closure may be called on every name and contract
+-- The closure whose condition for a call is `pre` may be called on every rule's name and every reference to a contract (`Bor`).
 abbrev pub CanAsk : (List ℕ → Bor Known → Type 0) → Type 0
 CanAsk pre = (name : List ℕ) (p : Bor Known) → pre name p
 
--- a call of the closure at a name and a reference to the contract may give the answer
+-- A call of the closure that ensures `post`, at this name and a reference to this contract, may give the answer.
 abbrev pub MayAnswer : (List ℕ → Bor Known → Result (Option Command) AllocError → Type 0) → Answers
 MayAnswer post name known answer = (p : Bor Known) × post name p answer × (p.now ≡ known)
 
--- a text, if it is one, has few bytes
+-- a value that is a text has few bytes; of other values this says nothing
 abbrev pub IsShort : Value → Type 0
 IsShort (Text s) = length s ≤ MOST_TEXT_BYTES
 IsShort v = Unit {0}
 
--- a value that a script could have, and no reference to a contract
+-- an argument is a value that a script could have, and no reference to a contract
 abbrev pub IsPlain : Arg → Type 0
 IsPlain (Plain v) = IsShort v
 IsPlain (Contract r) = ⊥
 
--- It exercises that contract, with plain arguments that keep the limits of scripts and name only parties that the contract's
+-- The command exercises that known contract, with plain arguments that keep the limits of scripts and name only parties that the contract's
 -- fields name.
 pub record IsExerciseOf (known : Known) (command : Command) : Type 0 where
   pub choice : List ℕ
@@ -47,6 +47,6 @@ pub record IsExerciseOf (known : Known) (command : Command) : Type 0 where
   pub plain : All IsPlain args
   pub named : AreKnown (has_party (parties_in_instance known.instance)) (parties_in_args args)
 
--- each command that may be answered exercises the contract
+-- each command that may be answered about a contract, for whatever rule, exercises that contract
 abbrev pub GivesExercises : Answers → Type 0
 GivesExercises may = (name : List ℕ) (known : Known) (command : Command) → may name known (Ok (Some command)) → IsExerciseOf known command

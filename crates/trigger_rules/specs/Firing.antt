@@ -12,18 +12,19 @@ use Rattle.trigger_rules.specs.declared.caused.Caused.{Caused}
 use Rattle.trigger_rules.specs.declared.rule.Rule.{Rule}
 use Rattle.trigger_rules.specs.Answers.{Answers, IsExerciseOf}
 
--- whether the rule that fired on these contracts fired on this one
+-- whether a rule that fired on contracts of these ids fired on the contract of this one
 abbrev pub has_fired : List (List ℕ) → (id : List ℕ) → Bool
 has_fired fired id = list_any (bytes_eq id) fired
 
+-- the ids of the contracts on which rules caused these, in order
 abbrev pub contracts_of : List Caused → List (List ℕ)
 contracts_of caused = map (λ (one : Caused). one.contract) caused
 
--- the id of a rule's command: its name, a hyphen, and how often it fired before
+-- the id of a rule's command: its name, a hyphen (45), and how often the rule fired before
 abbrev pub command_id : (name : List ℕ) → (before : ℕ) → List ℕ
 command_id name before = name ++ (45 ∷ decimal before)
 
--- what the rule submits with a command, for its party, where it fired so often before
+-- what the rule submits with a command, for its party and at the time `now` (microseconds), where it fired so often `before`
 abbrev pub submission_by : Rule → (now before : ℕ) → Command → Submission
 submission_by rule now before command =
     record {
@@ -34,12 +35,13 @@ submission_by rule now before command =
       what = Commands (command ∷ []);
     }
 
--- what the rule causes in a round with a command on a contract, where it fired so often before
+-- what the rule causes in a round with a command on a known contract, at the time `now`, where it fired so often `before`
 abbrev pub caused_by : Rule → (round now before : ℕ) → Known → Command → Caused
 caused_by rule round now before known command =
     record { round = round; rule = rule.name; contract = known.id; instance = known.instance; submission = submission_by rule now before command }
 
--- The rule, which had fired on some contracts, fires on this one too: it hadn't before, and this command may be answered.
+-- The rule, which had fired on the contracts `fired`, fires on this one too, which gives `one`: it hadn't before, and this command may be
+-- answered.
 pub record FiresOn (may : Answers) (rule : Rule) (round now : ℕ) (fired : List (List ℕ)) (known : Known) (one : Caused) : Type 0 where
   pub command : Command
   pub is : one ≡ caused_by rule round now (length fired) known command
@@ -47,7 +49,8 @@ pub record FiresOn (may : Answers) (rule : Rule) (round now : ℕ) (fired : List
   pub answered : may rule.name known (Ok (Some command))
   pub exercises : IsExerciseOf known command
 
--- What comes of a row about which a rule is asked: it had fired on its contract, it may be answered none, or it fires on it.
+-- What comes of a row of an active contract about which a rule is asked: it had fired on its contract, or None may be answered, and nothing
+-- changes; or it fires on it. `fired` and `caused` were before, the two with a stroke are after.
 abbrev pub AsksOne : Answers → Rule → (round now : ℕ) → (fired : List (List ℕ)) → ActiveRow → (caused : List Caused)
     → (fired' : List (List ℕ)) → (caused' : List Caused) → Type 0
 AsksOne may rule round now fired row caused fired' caused' =
@@ -55,12 +58,12 @@ AsksOne may rule round now fired row caused fired' caused' =
     ⊎ (may rule.name row.known (Ok None) × (fired' ≡ fired) × (caused' ≡ caused))
     ⊎ ((one : Caused) × FiresOn may rule round now fired row.known one × (fired' ≡ fired ++ (row.known).id ∷ []) × (caused' ≡ caused ++ one ∷ []))
 
--- each place is less than those behind it
+-- each place of the list is less than those behind it
 abbrev pub Rise : List ℕ → Type 0
 Rise places = (i j a b : ℕ) → i < j → slice_get places i ≡ Some a → slice_get places j ≡ Some b → a < b
 
--- What a rule causes when it is asked about rows in their order, after it had fired on some contracts. Each row on whose
--- contract it hasn't fired is asked about: it fires on it, or may be answered none.
+-- What a rule causes (`caused`) when it is asked about rows of active contracts in their order, after it had fired on the contracts `fired`.
+-- Each row on whose contract it hadn't fired is asked about: it fires on it, or None may be answered.
 pub record Fires (may : Answers) (rule : Rule) (round now : ℕ) (fired : List (List ℕ)) (rows : List ActiveRow) (caused : List Caused) : Type 0 where
   pub places : List ℕ  -- of the rows on which it fires
   pub in_order : Rise places

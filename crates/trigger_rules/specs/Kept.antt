@@ -1,34 +1,36 @@
--- What is kept of rules.
+-- What is kept of rules while rounds are played.
 use Rattle.std.specs.Prelude.{◌≢◌, ℕ, ◌≤◌, List, [], All, Option, Some, None, length, slice_get}
 use Rattle.std.specs.List.{AllPairs}
 use Rattle.trigger_rules.specs.declared.rule.Rule.{Rule}
 use Rattle.ledger_terms.specs.declared.limits.TheConstants.{MOST_RULE_NAME_BYTES}
 use Rattle.trigger_rules.specs.Answers.{Answers, GivesExercises}
 
--- Rules, who answers for them, and the contracts on which each has fired, in order, by the number of the rule. Of the last
--- ones, which haven't fired, there may be no lists.
+-- Rules, who answers for them, and for each rule, by its number, the ids of the contracts on which it has fired, in order. Of the last
+-- rules, if they haven't fired, there may be no lists.
 pub record KeptRules (F : Type 0) : Type 0 where
   pub rules : List Rule
   pub fired : List (List (List ℕ))
   pub answer : F
 
+-- the contracts of a rule's list; none where it has no list yet
 abbrev pub or_none : Option (List (List ℕ)) → List (List ℕ)
 or_none None = []
 or_none (Some ids) = ids
 
--- the contracts on which the rule of a number has fired, in order
+-- the ids of the contracts on which the rule of this number has fired, in order
 abbrev pub fired_by : {F : Type 0} → KeptRules F → (rule : ℕ) → List (List ℕ)
 fired_by kept rule = or_none (slice_get kept.fired rule)
 
--- the names of rules leave room for a number
+-- the names of these rules are short enough that a command's id has room for a number behind them
 abbrev pub AreShort : List Rule → Type 0
 AreShort rules = All (λ (rule : Rule). length rule.name ≤ MOST_RULE_NAME_BYTES) rules
 
--- no two rules have the same name
+-- no two of these rules have the same name
 abbrev pub AreNamed : List Rule → Type 0
 AreNamed rules = AllPairs (λ (one other : Rule). other.name ≢ one.name) rules
 
--- The rules' names leave room, everything may be asked, and each command that is answered exercises its contract.
+-- What always holds of kept rules: their names leave room, everything may be asked, and each command that may be answered exercises its
+-- contract.
 pub record IsKept (rules : List Rule) (can_ask : Type 0) (may : Answers) : Type 0 where
   pub short : AreShort rules
   pub askable : can_ask

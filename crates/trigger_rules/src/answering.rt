@@ -16,6 +16,7 @@ pub trait Answering: Drop {
     // This is an answer that it may give for a rule's name and a contract.
     ghost may_answer: { Self → List ℕ → Known → Result (Option Command) AllocError → Type 0 };
 
+    /// What the rule of this name does about an active contract: the command that it fires with, or None, by which it does nothing.
     fn answer(&self, rule: Name, known: &Known) -> Result<Option<Command>, AllocError>
         requires { can_ask self.now }
         ensures { may_answer self.now rule known.now result };

@@ -47,7 +47,8 @@ fn make_lists(alloc: Global, lists: &mut Vec<Fired>, count: usize) -> Result<(),
 }
 
 impl<F: Answering> Rules<F> {
-    /// Rules that haven't fired, and who answers for them.
+    /// Rules that haven't fired, with who answers for them. Their names have to be short, and each command that may be answered an exercise of
+    /// the contract that is asked about.
     pub fn new(rules: RuleList, answer: F) -> Rules<F>
         requires short { AreShort rules }
         requires askable { F.can_ask answer }
@@ -69,8 +70,8 @@ impl<F: Answering> Rules<F> {
         self.rules.as_slice()
     }
 
-    /// The rule with a number is asked in order about the contracts on which it hasn't fired, and fires on those for which a command is
-    /// answered; what it caused comes back. `now` is the time in microseconds. After want of memory nothing has fired.
+    /// Asks the rule with the number `rule` in a round about these active contracts, in order, but for those on which it has fired. It fires
+    /// on those for which a command is answered; what it caused comes back. `now` is the time in microseconds. After want of memory it hasn't fired.
     pub fn fire(
         &mut self,
         rule: u32,

@@ -3,13 +3,13 @@ use Rattle.std.specs.Prelude.{ℕ, List}
 use Rattle.ledger_model.specs.Terms.{Path}
 use Rattle.confirm_reply.specs.declared.check_input.CheckInput.{CheckInput}
 
--- what a participant checks a request by, the request's place, and the paths of the views that are to be checked
+-- what a job is given: what the participant checks the request by, the request's place, and the paths of the views that are to be checked
 pub record Assignment : Type 0 where
   pub input : CheckInput
   pub place : ℕ
   pub views : List Path
 
--- a job, with how many of its views are left
+-- what contracts see of a job: what it was given, and how many of its views are left to check
 pub record Job : Type 0 where
   pub given : Assignment
   pub left : ℕ

@@ -5,10 +5,10 @@ use Rattle.canton_model.specs.declared.view_verdict.ViewVerdict.{ViewVerdict}
 use Rattle.confirm_reply.specs.Verdict.{verdict_of}
 use Rattle.confirm_reply.specs.declared.check_input.CheckInput.{CheckInput}
 
--- a path with the model's verdict on the view there
+-- the path of a view with the model's verdict on that view, by what the check goes by
 abbrev pub owed_on : CheckInput → Path → ViewVerdict
 owed_on input path = record { view = path; verdict = verdict_of input path }
 
--- the same of each path, in order
+-- each of these paths with the model's verdict on its view, in order
 abbrev pub owed_on_each : CheckInput → List Path → List ViewVerdict
 owed_on_each input paths = map (owed_on input) paths

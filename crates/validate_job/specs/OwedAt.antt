@@ -8,7 +8,8 @@ use Rattle.canton_model.specs.Reading.{Reading, Missing}
 use Rattle.confirm_reply.specs.Verdict.{IsGivenKnown, reading_of}
 use Rattle.confirm_reply.specs.declared.check_input.CheckInput.{CheckInput}
 
--- The part of a reading on which verdicts hang: all but what requests show.
+-- A reading without what requests show: nothing is told, offered or framed. On what is left, whom participants host and what packages say, verdicts
+-- on opened views hang.
 abbrev pub without_requests : Reading → Reading
 without_requests reading =
     record {

@@ -87,7 +87,8 @@ fn verdict_on(
 }
 
 impl<'s> ValidateJob<'s> {
-    /// The check of the views with these paths of the request at a place, none of them checked yet.
+    /// A job that checks the views with these paths of the request at `place`, none of them checked yet. `input` is what the participant checks the
+    /// request by.
     pub fn new(input: CheckInput<'s>, place: u64, views: PathList) -> ValidateJob<'s>
         requires some { 0 < length views }
         requires each { All (CanCheck input) views }
@@ -104,7 +105,7 @@ impl<'s> ValidateJob<'s> {
         }
     }
 
-    /// The place of the request.
+    /// The place of the request that is checked.
     pub fn place(&self) -> u64
         ensures { result ≡ self.now.given.place }
     {
@@ -119,7 +120,7 @@ impl<'s> ValidateJob<'s> {
         left.min(u32::MAX as usize) as u32
     }
 
-    /// Gives the job up, and tells the place of its request.
+    /// Gives the job up before its end, and tells the place of its request.
     pub fn cancel(self) -> u64
         ensures { result ≡ self.entry.given.place }
     {
@@ -127,7 +128,8 @@ impl<'s> ValidateJob<'s> {
         place
     }
 
-    /// Checks the next view, and gives all verdicts after the last. None where views remain. After want of memory the job is as before.
+    /// Checks the next view, and gives the verdicts on all views after the last. None where views are left to check. After want of memory the job is
+    /// as before.
     pub fn check_next(&mut self) -> Result<Option<Finished>, AllocError>
         requires { 0 < self.old.left }
         ensures one_view { OnOk result (self.new.left + 1 ≡ self.old.left) }
@@ -141,7 +143,7 @@ impl<'s> ValidateJob<'s> {
         self.check_next_by(&NativeList::new(alloc))
     }
 
-    /// The same, where a choice that `natives` has is asked of them in place of the language.
+    /// As `check_next`, where a choice that `natives` has is asked of them in place of the contract language.
     pub fn check_next_by(&mut self, natives: &NativeList) -> Result<Option<Finished>, AllocError>
         requires { 0 < self.old.left }
         ensures one_view { OnOk result (self.new.left + 1 ≡ self.old.left) }

@@ -2,7 +2,8 @@
 use crate::withheld::WithheldList;
 use ledger_terms::{ParticipantId, Topology};
 
-/// The participants with the parties that they host, and those of them from whom views of the request are withheld.
+/// For whom chips stand in a request's views: the participants with the parties that they host, and those of them from whom views of the request are
+/// withheld.
 #[derive(Clone, Copy)]
 pub(crate) struct Audience<'a> {
     pub topology: &'a Topology,
@@ -10,7 +11,7 @@ pub(crate) struct Audience<'a> {
 }
 
 impl Audience<'_> {
-    /// Whether the views that a participant is to see are withheld from it.
+    /// Whether the views of the request that this participant is to see are withheld from it.
     pub fn lacks(&self, at: ParticipantId) -> bool {
         self.withheld
             .as_slice()

@@ -3,7 +3,7 @@ use crate::part::Part;
 use ledger_terms::Name;
 use svg_text::Frame;
 
-/// A participant that sees a view, or is to see it where it is withheld, in the box of that view.
+/// A small sign in the box of a view: a participant that sees the view, or is to see it where it is withheld, and what the participant does with it.
 #[derive(Drop)]
 pub struct Chip {
     pub name: Name,

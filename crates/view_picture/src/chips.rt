@@ -6,7 +6,7 @@ use crate::span::Span;
 use ledger_terms::{ParticipantId, PartySet, Topology};
 use std::alloc::AllocError;
 
-/// What a participant does with a view of which these parties are told; nothing where it hosts none of them.
+/// What a participant does with a view: `told` are the informees of the view and of those above it. None: it hosts none of these.
 fn part_of(
     topology: &Topology,
     at: ParticipantId,
@@ -24,7 +24,8 @@ fn part_of(
     }
 }
 
-/// Puts a chip for each participant that hosts one of the parties which are told of a view.
+/// Puts a chip for each participant that hosts one of the parties `told`, which are the informees of a view and of those above it; `confirmers` are
+/// those of the view.
 pub(crate) fn put_chips(
     sheet: &mut Sheet,
     audience: &Audience<'_>,

@@ -4,7 +4,8 @@ use canton_model::{EntryList, Message, Request};
 use ledger_terms::{ListOf, ParticipantId, Topology};
 use std::alloc::{AllocError, Global};
 
-/// The request at a place, and what is drawn of it: all that its messages disclose, or what it discloses to one participant.
+/// The request at a place, and what is drawn of it: all that its messages disclose, or what it discloses to one participant. None: it discloses
+/// nothing.
 #[derive(Drop)]
 pub(crate) struct DisclosedRequest<'r> {
     pub place: u64,

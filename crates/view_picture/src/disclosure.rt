@@ -8,7 +8,7 @@ use proto_model::{envelope_of, read_outline, requested_views, tree_in};
 use std::alloc::{AllocError, Global};
 use view_split::View;
 
-/// The view at a path, where that is a placed view or one below it.
+/// The view at a path among the placed view and those below it. None: no such view stands there.
 fn view_in<'a>(placed: &'a PlacedView, path: &Path) -> Option<&'a View> {
     let steps = path.as_slice().strip_prefix(placed.path.as_slice())?;
     let mut view = &placed.view;
@@ -18,8 +18,8 @@ fn view_in<'a>(placed: &'a PlacedView, path: &Path) -> Option<&'a View> {
     Some(view)
 }
 
-/// What is drawn of a request: a tree that says where its views are, what complete envelopes open of it, what the mediator is told
-/// of its views, and from whom they are withheld.
+/// What is drawn of a request: a tree that says where its views are, what complete envelopes open of it, what the mediator is told of its views, and
+/// from whom they are withheld. `roles` is what the mediator is told, and is None in what is disclosed to one participant.
 #[derive(Drop)]
 pub(crate) struct Disclosure {
     pub tree: Tree,
@@ -75,7 +75,7 @@ impl Disclosure {
         Ok(Some(disclosure))
     }
 
-    /// Adds what is offered to a participant.
+    /// Adds what the request offers one participant.
     fn put(&mut self, offer: Offer) -> Result<(), AllocError> {
         match offer {
             Offer::Nothing => Ok(()),
@@ -84,7 +84,7 @@ impl Disclosure {
         }
     }
 
-    /// The tree that bytes spell, of which nothing is disclosed so far.
+    /// The tree that bytes spell, of which nothing is disclosed so far. None: they spell no tree.
     fn of_tree(alloc: Global, bytes: &[u8]) -> Result<Option<Disclosure>, AllocError> {
         match tree_in(alloc, bytes)? {
             Some(tree) => Ok(Some(Disclosure {
@@ -97,7 +97,7 @@ impl Disclosure {
         }
     }
 
-    /// The view at a path, of the first envelope that opens it as one of its topmost views.
+    /// The view at a path, as the first envelope has it that opens it as one of its topmost views. None: no envelope does.
     pub fn view_at(&self, path: &Path) -> Option<&View> {
         for part in self.opened.as_slice() {
             for placed in part.views.as_slice() {
@@ -109,7 +109,7 @@ impl Disclosure {
         None
     }
 
-    /// The view at a path among all that is opened, whether an envelope opens it as a topmost view or below one.
+    /// The view at a path, whether an envelope opens it as a topmost view or below one. None: no envelope opens it.
     pub fn view_within(&self, path: &Path) -> Option<&View> {
         for part in self.opened.as_slice() {
             for placed in part.views.as_slice() {
@@ -121,7 +121,8 @@ impl Disclosure {
         None
     }
 
-    /// The informees and confirmers of the view at a path, as the mediator is told them.
+    /// The informees and the confirmers of the view at a path, as the mediator is told them. None: what the mediator is told isn't disclosed, or has
+    /// no view there.
     pub fn roles_at(&self, path: &Path) -> Option<(&PartySet, &PartySet)> {
         let told = self.roles.as_ref()?;
         for view in told.views.as_slice() {
@@ -132,7 +133,7 @@ impl Disclosure {
         None
     }
 
-    /// The informees of the view at a path, as the mediator is told them.
+    /// The informees of the view at a path, as the mediator is told them. None: what the mediator is told isn't disclosed, or has no view there.
     pub fn informees_at(&self, path: &Path) -> Option<&PartySet> {
         let (informees, _) = self.roles_at(path)?;
         Some(informees)
@@ -143,12 +144,12 @@ impl Disclosure {
         self.withheld.as_slice().iter().any(|one| one.sees(path))
     }
 
-    /// Whether the sender's name is told, by the mediator's tree or by an envelope.
+    /// Whether the sender's name is disclosed, by what the mediator is told or by an envelope.
     pub fn names_sender(&self) -> bool {
         self.roles.is_some() || !self.opened.is_empty()
     }
 
-    /// The requesters, where an envelope tells them.
+    /// The requesters, as the first envelope tells them that does. None: no envelope does.
     pub fn requesters(&self) -> Option<&PartySet> {
         for part in self.opened.as_slice() {
             if let Some(parties) = &part.requesters {

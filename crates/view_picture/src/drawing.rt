@@ -31,6 +31,7 @@ pub fn drawn(alloc: Global, picture: &Picture) -> Result<Text, AllocError> {
     svg.finish()
 }
 
+/// Draws the box of a view that is shown.
 fn draw_shown_box(svg: &mut Svg, frame: Frame, fill: Fill) -> Result<(), AllocError> {
     let tone = Tone::Accent;
     svg.rectangle(frame, Paint { tone, fill })
@@ -42,6 +43,7 @@ fn draw_dashed(svg: &mut Svg, frame: Frame, paint: Paint) -> Result<(), AllocErr
     svg.end_group()
 }
 
+/// Draws the box of a view that isn't shown, of dashes and with nothing behind it.
 fn draw_clear_box(svg: &mut Svg, frame: Frame, tone: Tone) -> Result<(), AllocError> {
     let fill = Fill::Clear;
     draw_dashed(svg, frame, Paint { tone, fill })
@@ -56,6 +58,7 @@ fn draw_box(svg: &mut Svg, view_box: &ViewBox) -> Result<(), AllocError> {
     }
 }
 
+/// The font and the tone of a line.
 fn look_of(kind: LineKind) -> (Font, Tone) {
     match kind {
         LineKind::Title => (Font::Title, Tone::Ink),
@@ -80,6 +83,7 @@ fn draw_line(alloc: Global, svg: &mut Svg, line: &Line) -> Result<(), AllocError
     draw_text(alloc, svg, &label, line.text.as_str(), line.letters)
 }
 
+/// Draws a text, cut where it has more letters than `letters`.
 fn draw_text(
     alloc: Global,
     svg: &mut Svg,

@@ -12,7 +12,7 @@ pub(crate) enum Lack {
 }
 
 impl Lack {
-    /// What a picture says of the lack.
+    /// The words behind `withheld from P1:` in a picture.
     pub fn words(self) -> &'static str {
         match self {
             Lack::NoEnvelope => "no envelope",

@@ -26,7 +26,7 @@ pub enum LineKind {
 }
 
 impl LineKind {
-    /// How many letters of a line of this kind have room in a width.
+    /// How many letters of a line of this kind have room in a width, which is in units.
     pub(crate) fn letters_in(self, width: u32) -> u32 {
         match self {
             LineKind::Action | LineKind::Blinded => letters_in(width),

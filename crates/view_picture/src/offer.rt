@@ -9,7 +9,8 @@ use ledger_terms::{ParticipantId, Topology};
 use proto_model::{Notice, Outline, envelope_of, read_notice};
 use std::alloc::{AllocError, Global};
 
-/// What a request offers a participant: nothing where it is no recipient, or is one only as the sender and has no complete envelope.
+/// What a request offers a participant. Nothing: it is no recipient, or is one only as the sender and has no complete envelope. Open: what its
+/// complete envelope opens. Withheld: it is to see views and has no complete envelope.
 #[derive(Drop)]
 pub(crate) enum Offer {
     Nothing,
@@ -17,7 +18,7 @@ pub(crate) enum Offer {
     Withheld(Withheld),
 }
 
-/// What a request offers a participant, by its outline and the envelope to the participant.
+/// What the request offers the participant `me`. The outline is the views that the mediator is told of, with their informees and confirmers.
 pub(crate) fn offer_of(
     alloc: Global,
     topology: &Topology,

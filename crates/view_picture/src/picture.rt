@@ -29,8 +29,8 @@ pub struct Picture {
     pub pieces: PieceList,
 }
 
-/// The picture of the requests of a log's first entries: all that the messages of each disclose, or what they disclose to one
-/// participant.
+/// The picture of the requests among the log's first 500 entries. It shows all that the messages of each disclose, or, where `reader` is a
+/// participant, what they disclose to that one. Where the log is longer, a line at the end says so.
 pub fn picture_of(
     alloc: Global,
     topology: &Topology,
@@ -64,6 +64,7 @@ pub fn picture_of(
     Ok(picture_with(title, sheet))
 }
 
+/// The picture of what was put onto a sheet.
 fn picture_with(title: Text, sheet: Sheet) -> Picture {
     let Sheet {
         bottom,
@@ -83,6 +84,7 @@ fn picture_with(title: Text, sheet: Sheet) -> Picture {
     }
 }
 
+/// The title: of all that is disclosed, or of what is shown to the reader.
 fn title_of(
     alloc: Global,
     topology: &Topology,
@@ -97,7 +99,7 @@ fn title_of(
     Ok(Text::of_string(out))
 }
 
-/// Puts what boxes and chips mean.
+/// Puts what boxes and chips mean. `has_blind` tells whether hashes may stand in the place of what isn't shown.
 fn put_key(
     sheet: &mut Sheet,
     span: Span,
@@ -146,6 +148,7 @@ fn has_observers(topology: &Topology) -> bool {
         .any(|host| !host.observing.is_empty())
 }
 
+/// Puts that the log goes on behind the entries that were drawn.
 fn put_end(sheet: &mut Sheet, span: Span) -> Result<(), AllocError> {
     sheet.skip(12);
     let mut out = String::from_str(

@@ -17,7 +17,7 @@ use std::alloc::{AllocError, Global};
 /// Units above a request.
 const ABOVE: u32 = 18;
 
-/// Puts a request with what is disclosed of it, to one participant where `reader` is one.
+/// Puts the line that says which request it is, and below it what is disclosed: to `reader`, or, where that is None, by all messages together.
 pub(crate) fn put_request(
     sheet: &mut Sheet,
     topology: &Topology,
@@ -32,7 +32,7 @@ pub(crate) fn put_request(
     put_disclosed(sheet, topology, span, disclosed, reader)
 }
 
-/// Puts what is disclosed of a request, to one participant where `reader` is one.
+/// Puts what is disclosed of a request: to `reader`, or, where that is None, by all messages together.
 pub(crate) fn put_disclosed(
     sheet: &mut Sheet,
     topology: &Topology,
@@ -61,7 +61,7 @@ pub(crate) fn put_disclosed(
     put_vertices(sheet, &audience, disclosure, &spot, &disclosure.tree.views)
 }
 
-/// Which request it is.
+/// The line that says which request it is: its place, the sender's name and the command.
 fn request_text(
     alloc: Global,
     topology: &Topology,
@@ -77,7 +77,7 @@ fn request_text(
     Ok(Text::of_string(out))
 }
 
-/// From whom views are withheld, and why.
+/// The line that says from whom views are withheld, and what that participant has in place of a complete envelope.
 fn withheld_text(
     alloc: Global,
     topology: &Topology,

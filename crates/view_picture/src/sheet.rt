@@ -25,7 +25,7 @@ const CHIP_GAP: u32 = 6;
 /// How many letters have room in a chip beside its two words.
 const CHIP_LETTERS: u32 = 3;
 
-/// What was put into a picture so far, and how far down that goes. Heights past what a u32 holds stay at its greatest.
+/// A picture in the making: what was put into it so far, and how far down that goes. Heights past what a u32 holds stay at its greatest.
 #[derive(Drop)]
 pub(crate) struct Sheet {
     pub alloc: Global,
@@ -34,7 +34,7 @@ pub(crate) struct Sheet {
     pub pieces: PieceList,
 }
 
-/// How wide a chip wants to be.
+/// How wide a chip is, in units, where there is room for it.
 fn chip_width(name: Name, part: Part, is_withheld: bool) -> u32 {
     let word = chip_word(part, is_withheld);
     let letters = letters_of(name.as_str()).saturating_add(letters_of(word));
@@ -52,12 +52,12 @@ impl Sheet {
         }
     }
 
-    /// Leaves a gap of this height.
+    /// Leaves a gap of this height, in units, below all that was put.
     pub fn skip(&mut self, height: u32) {
         self.bottom = self.bottom.saturating_add(height);
     }
 
-    /// Puts a line of text below all that was put, in this part of the width.
+    /// Puts a line of text below all that was put, in this part of the width. Its text stays whole, and is cut where it is drawn.
     pub fn put_line(&mut self, kind: LineKind, span: Span, text: Text) -> Result<(), AllocError> {
         let at = Point {
             x: span.left,
@@ -73,7 +73,8 @@ impl Sheet {
         }))
     }
 
-    /// Puts a participant's chip at `left`, or below where it has no room there, and says how far to the right the next one stands.
+    /// Puts a participant's chip at `left`, or at the beginning of a new row where it has no room there. The result is how far to the right the next
+    /// chip stands.
     pub fn put_chip(
         &mut self,
         span: Span,
@@ -113,7 +114,7 @@ impl Sheet {
         self.skip(CHIP + CHIP_GAP);
     }
 
-    /// Begins a box below all that was put, and says where its top is.
+    /// Begins a box below all that was put. The result is where its top is, which `end_box` wants to know.
     pub fn begin_box(&mut self) -> u32 {
         self.skip(BOX_GAP);
         let top = self.bottom;
@@ -121,7 +122,7 @@ impl Sheet {
         top
     }
 
-    /// Ends the box that began at `top`.
+    /// Ends the box that began at `top`, so that all that was put since stands inside it.
     pub fn end_box(&mut self, span: Span, top: u32, kind: BoxKind) -> Result<(), AllocError> {
         self.skip(INSIDE / 2);
         let frame = Frame {

@@ -13,7 +13,8 @@ use std::alloc::{AllocError, Global};
 /// How wide what is shown is, in units.
 const WIDTH: u32 = 800;
 
-/// The lines and chips by which a picture shows what the request at a place discloses to one participant, from the left edge on.
+/// The lines and chips by which a picture shows what the request at a place discloses to the participant `me`, without boxes. They stand as if the
+/// picture began at the left edge.
 pub fn shown_pieces(
     alloc: Global,
     topology: &Topology,

@@ -25,7 +25,7 @@ impl Span {
         }
     }
 
-    /// The part of the width that is left for what stands so many levels below a view's first action.
+    /// The part of the width that is left for an action so many levels below a view's first action, which stands more to the right.
     pub fn at_level(&self, level: u32) -> Span {
         Span {
             left: self.left.saturating_add(level.saturating_mul(LEVEL)),

@@ -22,7 +22,8 @@ impl Spot {
         }
     }
 
-    /// Where the view with the number `at` directly below stands, in this part of the width, with `told` as the informees above it.
+    /// Where the view with the number `at` among those directly below stands, in this part of the width; `told` are the informees of the views above
+    /// it.
     pub fn below(&self, at: u16, span: Span, told: &PartySet) -> Result<Spot, AllocError> {
         let mut path = self.path.clone()?;
         path.push(at)?;
@@ -33,7 +34,7 @@ impl Spot {
         })
     }
 
-    /// Where the list of views directly below the view here stands: inside its box, with its informees, where they are told, beside those above.
+    /// Where the list of views directly below the view here stands: inside its box. Its informees, where they are known, join those above.
     pub fn inside(&self, informees: Option<&PartySet>) -> Result<Spot, AllocError> {
         let told = match informees {
             Some(informees) => self.told.union(informees)?,

@@ -4,7 +4,7 @@ use ledger_terms::{ListOf, Text};
 use std::alloc::{AllocError, Global};
 use view_split::{CoreChild, CoreChildList, SplitView};
 
-/// A step of the walk through a core in pre-order, with its level below the view's first action: an action, or a hole, where a
+/// An item of the walk through a core in pre-order, with its level below the view's first action. An action has its text; None is a hole, where a
 /// view below starts.
 #[derive(Drop)]
 pub(crate) struct Step {
@@ -15,7 +15,7 @@ pub(crate) struct Step {
 /// Steps in the order of the walk.
 pub(crate) type StepList = ListOf<Step>;
 
-/// The walk through a view's core, from its first action on.
+/// The actions and holes of a view's core in pre-order, from its first action on.
 pub(crate) fn steps_of(alloc: Global, view: &SplitView) -> Result<StepList, AllocError> {
     let mut steps = StepList::new(alloc);
     let action = Some(action_text(alloc, &view.first.action)?);
@@ -24,6 +24,7 @@ pub(crate) fn steps_of(alloc: Global, view: &SplitView) -> Result<StepList, Allo
     Ok(steps)
 }
 
+/// Adds the children of an action, which are at this level, with all below them.
 fn put_steps(
     alloc: Global,
     children: &CoreChildList,

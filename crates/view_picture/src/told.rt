@@ -6,8 +6,8 @@ use ledger_terms::{Name, Text};
 use report_text::put_number;
 use std::alloc::{AllocError, Global};
 
-/// What is told of a request as a whole: sender, ledger time and requesters as an envelope tells them, or the sender as the mediator is told it,
-/// where none does.
+/// The line about a request as a whole: the sender and the ledger time as an envelope tells them, or the sender alone as the mediator is told it;
+/// then the requesters, or the hash of their leaf where no envelope shows it.
 pub(crate) fn told_text(alloc: Global, disclosure: &Disclosure) -> Result<Text, AllocError> {
     let mut out = String::new(alloc);
     if let Some(part) = disclosure.opened.get(0) {
@@ -32,6 +32,7 @@ fn put_head(out: &mut String, part: &OpenedTree) -> Result<(), AllocError> {
     out.push_str(", ")
 }
 
+/// Puts the requesters, or the hash of their leaf where it isn't shown.
 fn put_requesters(
     alloc: Global,
     disclosure: &Disclosure,

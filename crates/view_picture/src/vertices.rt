@@ -11,7 +11,8 @@ use blind_tree::{Leaf, Vertex, VertexList};
 use ledger_terms::{Hash, Path};
 use std::alloc::AllocError;
 
-/// Puts the views of vertices side by side: what an envelope opens as it is, and hashes in the place of all else.
+/// Puts the views of vertices one below the other: a view that an envelope opens with its actions, and any other with hashes in the place of what
+/// isn't shown. `above` is where the list stands.
 pub(crate) fn put_vertices(
     sheet: &mut Sheet,
     audience: &Audience<'_>,
@@ -66,7 +67,7 @@ fn put_hash_box(sheet: &mut Sheet, spot: &Spot, hash: &Hash) -> Result<(), Alloc
     sheet.end_box(spot.span, top, BoxKind::Blinded)
 }
 
-/// Puts which view it is whose contents aren't shown, with what the mediator is told of it.
+/// Puts which view it is whose contents aren't shown, with its informees and confirmers where they are disclosed.
 fn put_blind_head(
     sheet: &mut Sheet,
     audience: &Audience<'_>,

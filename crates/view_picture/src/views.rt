@@ -12,7 +12,7 @@ use ledger_terms::{PartySet, Path};
 use std::alloc::AllocError;
 use view_split::View;
 
-/// Puts a view with all views below it, each in the place of its hole.
+/// Puts the box of an opened view with its actions, and the boxes of all views below it, each in the place of its hole.
 pub(crate) fn put_view(
     sheet: &mut Sheet,
     audience: &Audience<'_>,
@@ -52,7 +52,7 @@ fn kind_at(path: &Path) -> BoxKind {
     }
 }
 
-/// Puts what is told of a view: who it is for, and a chip for each participant that sees it.
+/// Puts the line that says which view it is, with its informees and confirmers, and a chip for each participant that sees it.
 pub(crate) fn put_roles(
     sheet: &mut Sheet,
     audience: &Audience<'_>,
@@ -67,14 +67,15 @@ pub(crate) fn put_roles(
     put_chips(sheet, audience, inside, &told, confirmers)
 }
 
-/// A hole in a core: its level, and the number of the step after it.
+/// Where a walk through a core stopped: the level of the hole, and the number of the step behind it.
 #[derive(Clone, Copy)]
 struct Hole {
     level: u32,
     next: usize,
 }
 
-/// Puts the actions of a core from a step on, up to the next hole.
+/// Puts the actions of a core from the step `from` on, up to the next hole. Where there is no hole any more, the result has level 0 and the number of
+/// all steps.
 fn put_core(
     sheet: &mut Sheet,
     span: Span,

@@ -13,7 +13,7 @@ pub(crate) fn action_text(alloc: Global, action: &Action) -> Result<Text, AllocE
     Ok(Text::of_string(out))
 }
 
-/// The line that says which view a box is, with the view's informees and confirmers.
+/// The line that says which view a box is, with the informees and the confirmers.
 pub(crate) fn view_text(
     alloc: Global,
     path: &Path,
@@ -27,7 +27,7 @@ pub(crate) fn view_text(
     Ok(Text::of_string(out))
 }
 
-/// The line that says which view a box is, with what isn't shown of the view.
+/// The line of a view that isn't shown: its path, and `what` behind it, as `, blinded`.
 pub(crate) fn blind_text(alloc: Global, path: &Path, what: &str) -> Result<Text, AllocError> {
     let mut out = String::from_str(alloc, "view ")?;
     put_path(&mut out, path)?;
@@ -35,21 +35,21 @@ pub(crate) fn blind_text(alloc: Global, path: &Path, what: &str) -> Result<Text,
     Ok(Text::of_string(out))
 }
 
-/// The line that says what is blinded, with its hash.
+/// A line that stands in the place of what isn't shown: `what`, which names it, and its hash.
 pub(crate) fn hash_line(alloc: Global, what: &str, hash: &Hash) -> Result<Text, AllocError> {
     let mut out = String::from_str(alloc, what)?;
     put_hash(alloc, &mut out, hash)?;
     Ok(Text::of_string(out))
 }
 
-/// Puts the beginning of a hash at the end of `out`.
+/// Puts the first eight digits of a hash and two points at the end of `out`.
 pub(crate) fn put_hash(alloc: Global, out: &mut String, hash: &Hash) -> Result<(), AllocError> {
     let digits = hex::encode(alloc, &hash.as_bytes()[..SHORT_HASH])?;
     out.push_str(digits.as_str())?;
     out.push_str("..")
 }
 
-/// Puts a word and parties at the end of `out`.
+/// Puts `word` and the names of parties at the end of `out`.
 pub(crate) fn put_parties(
     out: &mut String,
     word: &str,

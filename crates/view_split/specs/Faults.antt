@@ -12,23 +12,25 @@ use Rattle.view_split.specs.declared.split_fault.SplitFault.{SplitFault}
 use Rattle.view_split.specs.declared.split_fault.SplitFault.TheVariants.{NoRoles, Memory}
 use Rattle.view_split.specs.declared.views.Views.{Views}
 
--- A path as it is kept: its steps have 16 bits, so a step beyond them is kept by its remainder.
+-- A path as the code keeps it: its steps have 16 bits, so a step of 2 ^ 16 or more is kept by its remainder.
 abbrev pub kept_path : List ℕ → List ℕ
 kept_path path = map (λ step. step % 2 ^ 16) path
 
+-- whether this action, given with its path, has no roles in these packages
 abbrev pub is_roleless : Packages → List ℕ × Act → Bool
 is_roleless packages placed = not (has_roles packages (placed.1).action)
 
--- the path of the first action in pre-order that has no roles
+-- The path, as it is kept, of the first action in pre-order that has no roles; None where all have roles.
 abbrev pub first_roleless : Packages → Actions → Option (List ℕ)
 first_roleless packages roots =
     option_map (λ (placed : List ℕ × Act). kept_path placed.0) (find (is_roleless packages) (preorder (paths_from [] 0 roots)))
 
+-- These views where there is no fault (None), else the fault that the action at the path has no roles.
 abbrev pub unless_fault : Option (List ℕ) → Views → Result Views SplitFault
 unless_fault None views = Ok views
 unless_fault (Some path) views = Err (NoRoles path)
 
--- the views of a transaction whose actions have roles
+-- The views of a transaction with its requesters, time and seed; or the fault that names its first action without roles.
 abbrev pub views_of_tx : Packages → Tx → Result Views SplitFault
 views_of_tx packages tx =
     unless_fault (first_roleless packages tx.roots) (record {
@@ -38,15 +40,17 @@ views_of_tx packages tx =
       roots = split (roles_in packages) tx.roots;
     })
 
--- the path, where its action has no roles
+-- This path where the action has no roles, else None.
 abbrev pub roleless_at : Packages → List ℕ → Action → Option (List ℕ)
 roleless_at packages path action = if has_roles packages action then None else Some path
 
--- The same of roots from the one numbered k on, below a path, one after another.
+-- the first of the two that isn't None
 abbrev pub or_else : Option (List ℕ) → Option (List ℕ) → Option (List ℕ)
 or_else None later = later
 or_else (Some path) later = Some path
 
+-- The path, as it is kept, of the first action without roles among these trees; None where all have roles. The trees stand below the action with the
+-- given path, and the first of them is number k there.
 abbrev pub fault_from : Packages → List ℕ → ℕ → Actions → Option (List ℕ)
 fault_from packages above k NoRoots = None
 fault_from packages above k (Root act below others) =
@@ -54,11 +58,11 @@ fault_from packages above k (Root act below others) =
     then or_else (fault_from packages (above ++ k % 2 ^ 16 ∷ []) 0 below) (fault_from packages above (suc k) others)
     else Some (above ++ k % 2 ^ 16 ∷ [])
 
--- of one action at a path, and those below it
+-- The path, as it is kept, of the first action without roles of one tree, whose first action has this path; None where all have roles.
 abbrev pub fault_at : Packages → List ℕ → Act → Actions → Option (List ℕ)
 fault_at packages path act below = if has_roles packages act.action then fault_from packages path 0 below else Some path
 
--- a fault for that reason, or for want of memory
+-- The fault that is told is right: it names the path of the first action without roles, or it is want of memory, of which nothing is said.
 abbrev pub IsFault : Option (List ℕ) → SplitFault → Type 0
 IsFault fault (NoRoles path) = fault ≡ Some path
 IsFault fault Memory = Unit {0}

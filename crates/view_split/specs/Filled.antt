@@ -5,7 +5,7 @@ use Rattle.ledger_terms.specs.Roots.{trees_count}
 use Rattle.view_split.specs.Holed.{holes}
 use Rattle.view_split.specs.declared.split_view.SplitView.{SplitView}
 
--- each has as many holes as views stand directly below it
+-- Each view, at any depth, has as many holes as views stand directly below it.
 abbrev pub AreFilled : Forest SplitView → Type 0
 AreFilled NoRoots = Unit {0}
 AreFilled (Root view subviews others) = (holes view.below ≡ trees_count subviews) × AreFilled subviews × AreFilled others

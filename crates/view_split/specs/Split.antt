@@ -10,15 +10,15 @@ use Rattle.ledger_model.specs.Views.{its_informees, starts}
 use Rattle.view_split.specs.Holed.{Holed, NoMore, Inner, Hole, inner, fill}
 use Rattle.view_split.specs.declared.split_view.SplitView.{SplitView}
 
--- the actions of a core, in pre-order
+-- the actions of a view's core, in pre-order
 abbrev pub core_acts : SplitView → List Act
 core_acts view = view.first ∷ inner view.below
 
--- the confirmers of actions, in order
+-- the confirmers of these actions one after another, with repetitions
 abbrev pub confirmers_in : (Action → Roles) → List Act → PartySet
 confirmers_in roles core = flat_map (λ (act : Act). (roles act.action).confirmers) core
 
--- What stands of these trees in the core of a view with these informees: an action that starts a view leaves a hole.
+-- What of these trees is in the core of a view with these informees, which stands above them: an action that starts a view of its own leaves a hole.
 abbrev pub core_of : (Action → Roles) → PartySet → Forest Act → Holed Act
 core_of roles enclosing NoRoots = NoMore
 core_of roles enclosing (Root act consequences others) =
@@ -26,7 +26,8 @@ core_of roles enclosing (Root act consequences others) =
     then Hole (core_of roles enclosing others)
     else Inner act (core_of roles enclosing consequences) (core_of roles enclosing others)
 
--- The view that an action starts. Its informees are the action's, and its confirmers those of its core, as a set.
+-- The view that this action starts, with the trees below it. Its informees are the action's, and its confirmers those of all actions of its core, as a
+-- set.
 abbrev pub view_at : (Action → Roles) → Act → Forest Act → SplitView
 view_at roles act consequences =
     let below = core_of roles (its_informees roles act) consequences in
@@ -37,7 +38,7 @@ view_at roles act consequences =
       below = below;
     }
 
--- the views that start below a view with these informees
+-- The topmost views that start among these trees, which stand below a view with these informees, each with the views below it.
 abbrev pub split_below : (Action → Roles) → PartySet → Forest Act → Forest SplitView
 split_below roles enclosing NoRoots = NoRoots
 split_below roles enclosing (Root act consequences others) =
@@ -45,13 +46,13 @@ split_below roles enclosing (Root act consequences others) =
     then Root (view_at roles act consequences) (split_below roles (its_informees roles act) consequences) (split_below roles enclosing others)
     else join (split_below roles enclosing consequences) (split_below roles enclosing others)
 
--- the views of a transaction: each root starts one
+-- The views of a transaction's trees. Each root starts one. The first argument gives an action's roles.
 abbrev pub split : (Action → Roles) → Forest Act → Forest SplitView
 split roles NoRoots = NoRoots
 split roles (Root act consequences others) =
     Root (view_at roles act consequences) (split_below roles (its_informees roles act) consequences) (split roles others)
 
--- Each view put back with those below it, which fill its holes: the tree of its first action.
+-- The actions that views are put back to: each view becomes the tree of its first action, where the trees of the views below it fill its holes.
 abbrev pub assembled : Forest SplitView → Forest Act
 assembled NoRoots = NoRoots
 assembled (Root view subviews others) = Root view.first (fill view.below (assembled subviews)) (assembled others)

@@ -12,13 +12,14 @@ use Rattle.view_split.specs.Split.{confirmers_in, core_of, split_below}
 use Rattle.view_split.specs.Faults.{fault_at}
 use Rattle.view_split.specs.declared.begun.Begun.{Begun}
 
--- The confirmers, views and children of a view with these informees are so much more.
+-- What a walk over these trees, which stand below a view with the informees `old.informees`, adds to it: confirmers to its own, views to those below
+-- it, and children to its core, which was `before` and is `after`.
 pub record IsWalked (roles : Action → Roles) (trees : Forest Act) (old new : Begun) (before after : Holed Act) : Type 0 where
   pub informees : new.informees ≡ old.informees
   pub confirmers : new.confirmers ≡ with_parties (confirmers_in roles (inner (core_of roles old.informees trees))) old.confirmers
   pub subviews : new.subviews ≡ join old.subviews (split_below roles old.informees trees)
   pub children : after ≡ beside before (core_of roles old.informees trees)
 
--- the path of the first action without roles of a node's tree, whose root has this path
+-- The path of the first action without roles in this node's tree, whose root has the given path; None where all have roles.
 abbrev pub node_fault : Packages → List ℕ → ActionNode → Option (List ℕ)
 node_fault packages path node = fault_at packages path node.root node.below

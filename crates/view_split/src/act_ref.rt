@@ -20,14 +20,14 @@ impl<'a> Model for ActRef<'a> {
 }
 
 impl<'a> ActRef<'a> {
-    /// An action that stands apart from its seed.
+    /// An action and its seed that stand apart from each other, lent as one.
     pub fn new(seed: &'a Hash, action: &'a Action) -> ActRef<'a>
         ensures { result ≡ record { seed = seed.now; action = action.now } }
     {
         ActRef { seed, action }
     }
 
-    /// An action that stands with its seed.
+    /// An action that stands with its seed, lent.
     pub fn of(act: &'a Act) -> ActRef<'a>
         ensures { result ≡ act.now }
     {
@@ -37,14 +37,14 @@ impl<'a> ActRef<'a> {
         }
     }
 
-    /// The seed.
+    /// The seed of the action.
     pub fn seed(&self) -> &'a Hash
         ensures { result.now ≡ self.now.seed }
     {
         self.seed
     }
 
-    /// The action.
+    /// The action without its seed.
     pub fn action(&self) -> &'a Action
         ensures { result.now ≡ self.now.action }
     {

@@ -52,7 +52,7 @@ impl Model for CoreChildList {
 }
 
 impl CoreChildList {
-    /// No children.
+    /// The list without children.
     pub fn new(alloc: Global) -> CoreChildList
         ensures { result ≡ NoMore }
     {

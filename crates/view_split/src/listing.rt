@@ -54,7 +54,7 @@ fn list_next<'a>(
     Ok(())
 }
 
-/// Puts the actions of what a view with all views below it is put back to at the end, in pre-order.
+/// Puts the actions of a view and of all views below it at the end of `found`, in pre-order of the tree that the view is put back to.
 #[cycle(list_acts)]
 pub fn acts_in_view<'a>(view: &'a View, found: &mut Vec<ActRef<'a>>) -> Result<(), AllocError>
     ensures { OnOk result (found.new.items ≡ found.old.items ++ acts (assembled (tree_of view.now))) }
@@ -64,7 +64,7 @@ pub fn acts_in_view<'a>(view: &'a View, found: &mut Vec<ActRef<'a>>) -> Result<(
     list_core(&view.root.below, view.below.as_slice(), &mut next, found)
 }
 
-/// The actions of what opened views are put back to, in pre-order.
+/// The actions of opened views and of all views below these, in pre-order of the trees that they are put back to. Err is want of memory.
 pub fn acts_in_views<'a>(
     alloc: Global,
     views: &'a PlacedViewList,

@@ -27,7 +27,7 @@ impl Model for Trees {
 }
 
 impl Trees {
-    /// The trees of a list.
+    /// The trees of a list, to be taken from its first on.
     pub fn of(trees: ActionNodeList) -> Trees
         ensures { result ≡ trees }
     {
@@ -36,7 +36,7 @@ impl Trees {
         Trees { last_first }
     }
 
-    /// Takes the first tree.
+    /// Takes the first tree that is left; None where none is.
     pub fn pop(&mut self) -> Option<ActionNode>
         ensures taken { self.old ≡ join (forest_of (option_to_list result)) self.new }
         ensures none { IfNone result (self.new ≡ NoRoots) }

@@ -48,7 +48,7 @@ fn put_complete(complete: Option<Complete>, out: &mut Vec<Complete>) -> Result<(
     Ok(())
 }
 
-// What one envelope opens, where it is complete.
+// What one envelope opens, where it is complete; else None.
 fn read_complete(
     alloc: Global,
     topology: &Topology,
@@ -84,7 +84,7 @@ fn opened_in(offered: OpenedFor) -> Option<OpenedTree>
     }
 }
 
-/// What complete envelopes show of the root views.
+/// What each of these complete envelopes shows of the root views, in order.
 pub(crate) fn parts_of<'a>(
     alloc: Global,
     envelopes: &'a [Complete],
@@ -98,7 +98,7 @@ pub(crate) fn parts_of<'a>(
     Ok(parts)
 }
 
-/// The requesters, from the first complete envelope to a participant that sees a root view.
+/// The requesters, from the first complete envelope to a participant that sees a root view. None where there is none.
 pub(crate) fn requesters_among(envelopes: &[Complete]) -> Result<Option<PartySet>, AllocError>
     ensures { IfOk result (λ requesters. requesters ≡ requesters_among envelopes.now) }
 {

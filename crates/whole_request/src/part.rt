@@ -58,7 +58,7 @@ fn is_listed(paths: &PathList, path: &Path) -> bool
     paths.as_slice().iter().any(|listed| listed == path)
 }
 
-/// The view at a path, the last step of which is `at`, from the first envelope that opens it.
+/// The view at a path, the last step of which is `at`, from the first envelope that opens it. None where none does.
 pub(crate) fn view_at(
     alloc: Global,
     path: &Path,
@@ -122,7 +122,7 @@ fn vertex_view(alloc: Global, vertex: &Vertex) -> Result<Option<SplitView>, Allo
     }
 }
 
-/// What envelopes show below the view with this number among those side by side.
+/// What envelopes show below the view with the number `at` among those side by side. Where that is blinded in an envelope, it has no part here.
 pub(crate) fn parts_below<'a>(
     alloc: Global,
     at: usize,

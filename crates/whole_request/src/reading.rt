@@ -19,9 +19,8 @@ use std::alloc::{AllocError, Global};
 use view_split::{ViewList, into_assembled};
 use wire_form::WireFault;
 
-/// The whole of a request, and none where its complete envelopes don't open all of it. Each view comes from the first of them that
-/// opens it to a participant that sees it, the requesters from the first to one that sees a root view, and the ledger time from the
-/// mediator's bytes.
+/// The whole of a request, and None where its complete envelopes don't open all of it. Each view comes from the first of them that opens it to a
+/// participant that sees it, the requesters from the first to one that sees a root view, and the ledger time from the mediator's bytes.
 pub fn whole_of(
     alloc: Global,
     topology: &Topology,
@@ -39,7 +38,7 @@ pub fn whole_of(
     whole_told(alloc, topology, request, &outline, &told)
 }
 
-// The same, where what the mediator is told has been read.
+// As `whole_of`, where the outline and the tree that the mediator's bytes tell have been read.
 fn whole_told(
     alloc: Global,
     topology: &Topology,
@@ -81,7 +80,7 @@ fn time_told(told: &Tree) -> Result<Option<u64>, AllocError>
     }
 }
 
-// What views are put back to.
+// The trees of actions of these views, one for each root view.
 fn actions_of(alloc: Global, views: ViewList) -> Result<ActionNodeList, AllocError>
     ensures { IfOk result (λ actions. actions ≡ assembled views) }
 {

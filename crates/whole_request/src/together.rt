@@ -11,8 +11,8 @@ use ledger_terms::{Path, Tree};
 use std::alloc::{AllocError, Global};
 use view_split::{View, ViewList};
 
-/// All views that the mediator's vertices stand for, each from the first envelope that opens it, and none where one is opened by no
-/// envelope. `above` is the path of the view above them.
+/// All views that the mediator's vertices stand for, each from the first envelope that opens it, and None where one is opened by no envelope. `above`
+/// is the path of the view above them, and `parts` is what envelopes show of them.
 #[cycle(together)]
 pub(crate) fn views_together(
     alloc: Global,

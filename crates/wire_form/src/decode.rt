@@ -1,6 +1,6 @@
-//! Reading spellings at a place in bytes. A fault names the first byte of the first field that can't be read: a tag, a
-//! number, a hash, a name with its byte of length, or the bytes that a length announces; a name that doesn't ascend in its
-//! set is such a field.
+//! Reading spellings at a place in bytes, an index from 0. What stands behind a spelling isn't looked at; `next` of the answer is the place after it.
+//! A fault names the first byte of the first field that can't be read: a tag, a number, a hash, a name with its byte of length, or the bytes that a
+//! length announces; a name that doesn't ascend in its set is such a field.
 ghost use Rattle.std.specs.Prelude.{◌≤◌, length};
 ghost use Rattle.wire_form.specs.Reading.{action_at, instance_at, set_at, value_at};
 ghost use Rattle.wire_form.specs.Spelling.{spell_action, spell_instance, spell_parties, spell_value};
@@ -13,7 +13,7 @@ use crate::wire_fault::WireFault;
 use ledger_terms::{Action, Instance, PartySet, Value};
 use std::alloc::Global;
 
-/// A value that stands at a place in the bytes.
+/// Reads the value whose spelling begins at place `at` of the bytes. Err names the field that can't be read, or want of memory.
 pub fn decode_value(alloc: Global, bytes: &[u8], at: usize) -> Result<Decoded<Value>, WireFault>
     requires { at ≤ length bytes.now }
     ensures exact { IsRead value_at bytes.now at result }
@@ -25,7 +25,7 @@ pub fn decode_value(alloc: Global, bytes: &[u8], at: usize) -> Result<Decoded<Va
     placed(bytes.len(), reader.len(), read)
 }
 
-/// A set of at most 128 parties that stands at a place in the bytes.
+/// Reads the set of at most 128 parties whose spelling begins at place `at` of the bytes. Err names the field that can't be read, or want of memory.
 pub fn decode_parties(
     alloc: Global,
     bytes: &[u8],
@@ -41,7 +41,7 @@ pub fn decode_parties(
     placed(bytes.len(), reader.len(), read)
 }
 
-/// An instance that stands at a place in the bytes.
+/// Reads the instance whose spelling begins at place `at` of the bytes. Err names the field that can't be read, or want of memory.
 pub fn decode_instance(
     alloc: Global,
     bytes: &[u8],
@@ -57,7 +57,7 @@ pub fn decode_instance(
     placed(bytes.len(), reader.len(), read)
 }
 
-/// An action that stands at a place in the bytes.
+/// Reads the action whose spelling begins at place `at` of the bytes. Err names the field that can't be read, or want of memory.
 pub fn decode_action(alloc: Global, bytes: &[u8], at: usize) -> Result<Decoded<Action>, WireFault>
     requires { at ≤ length bytes.now }
     ensures exact { IsRead action_at bytes.now at result }

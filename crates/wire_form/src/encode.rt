@@ -7,35 +7,35 @@ ghost use Rattle.wire_form.specs.Spellable.{IsSpellableSet, IsSpellable, AreSpel
 use ledger_terms::{Action, Bytes, Hash, Instance, Name, PartySet, Value, ValueList};
 use std::alloc::AllocError;
 
-/// Puts a number of four bytes at the end, high byte first.
+/// Puts a number of four bytes at the end of `out`, high byte first.
 pub fn encode_u32(number: u32, out: &mut Bytes) -> Result<(), AllocError>
     ensures { OnOk result (out.new ≡ out.old ++ to_be_bytes w32 number) }
 {
     out.extend(&number.to_be_bytes())
 }
 
-/// Puts a number of eight bytes at the end, high byte first.
+/// Puts a number of eight bytes at the end of `out`, high byte first.
 pub fn encode_u64(number: u64, out: &mut Bytes) -> Result<(), AllocError>
     ensures { OnOk result (out.new ≡ out.old ++ to_be_bytes w64 number) }
 {
     out.extend(&number.to_be_bytes())
 }
 
-/// Puts the 32 bytes of a hash at the end.
+/// Puts the 32 bytes of a hash at the end of `out`.
 pub fn encode_hash(hash: &Hash, out: &mut Bytes) -> Result<(), AllocError>
     ensures { OnOk result (out.new ≡ out.old ++ hash.now) }
 {
     out.extend(&hash.0)
 }
 
-/// Puts a truth value at the end.
+/// Puts a truth value at the end of `out`: one byte, 1 for true and 0 for false.
 pub fn encode_truth(truth: bool, out: &mut Bytes) -> Result<(), AllocError>
     ensures { OnOk result (out.new ≡ out.old ++ spell_truth truth) }
 {
     out.push(if truth { 1 } else { 0 })
 }
 
-/// Puts a name's spelling at the end.
+/// Puts a name's spelling at the end of `out`: a byte of length and the name.
 pub fn encode_name(name: &Name, out: &mut Bytes) -> Result<(), AllocError>
     ensures { OnOk result (out.new ≡ out.old ++ spell_name name.now) }
 {
@@ -44,7 +44,7 @@ pub fn encode_name(name: &Name, out: &mut Bytes) -> Result<(), AllocError>
     out.extend(text)
 }
 
-/// Puts a set's spelling at the end.
+/// Puts a set's spelling at the end of `out`: two bytes of count and the names. The set has at most 128.
 pub fn encode_parties(parties: &PartySet, out: &mut Bytes) -> Result<(), AllocError>
     requires { IsSpellableSet parties.now }
     ensures { OnOk result (out.new ≡ out.old ++ spell_parties parties.now) }
@@ -57,7 +57,7 @@ pub fn encode_parties(parties: &PartySet, out: &mut Bytes) -> Result<(), AllocEr
     Ok(())
 }
 
-/// Puts a value's spelling at the end.
+/// Puts a value's spelling at the end of `out`: a byte that tells its kind, and what that kind has.
 pub fn encode_value(value: &Value, out: &mut Bytes) -> Result<(), AllocError>
     requires { IsSpellable value.now }
     ensures { OnOk result (out.new ≡ out.old ++ spell_value value.now) }
@@ -93,7 +93,7 @@ pub fn encode_value(value: &Value, out: &mut Bytes) -> Result<(), AllocError>
     }
 }
 
-/// Puts the spelling of a list of values at the end.
+/// Puts the spelling of a list of values at the end of `out`: a byte of count and the values, at most 12.
 pub fn encode_values(values: &ValueList, out: &mut Bytes) -> Result<(), AllocError>
     requires { AreSpellable values.now }
     ensures { OnOk result (out.new ≡ out.old ++ spell_values values.now) }
@@ -106,7 +106,7 @@ pub fn encode_values(values: &ValueList, out: &mut Bytes) -> Result<(), AllocErr
     Ok(())
 }
 
-/// Puts an instance's spelling at the end.
+/// Puts an instance's spelling at the end of `out`: the names of its package and of its template, and its fields.
 pub fn encode_instance(instance: &Instance, out: &mut Bytes) -> Result<(), AllocError>
     requires { IsSpellableInstance instance.now }
     ensures { OnOk result (out.new ≡ out.old ++ spell_instance instance.now) }
@@ -116,7 +116,7 @@ pub fn encode_instance(instance: &Instance, out: &mut Bytes) -> Result<(), Alloc
     encode_values(instance.fields.as_list(), out)
 }
 
-/// Puts an action's spelling at the end.
+/// Puts an action's spelling at the end of `out`: a byte that tells whether it is a Create, an Exercise or a Fetch, and its parts.
 pub fn encode_action(action: &Action, out: &mut Bytes) -> Result<(), AllocError>
     requires { IsSpellableAction action.now }
     ensures { OnOk result (out.new ≡ out.old ++ spell_action action.now) }

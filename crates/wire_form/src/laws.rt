@@ -5,7 +5,7 @@ ghost use Rattle.wire_form.specs.Spelling.{spell_action, spell_instance, spell_p
 ghost use Rattle.wire_form.specs.Spellable.{AreSpellable, IsSpellable, IsSpellableAction, IsSpellableInstance, IsSpellableSet};
 ghost use Rattle.wire_form.specs.InRange.{AreInRange, IsAction, IsInRange, IsInstance, IsPartySet};
 
-/// No spelling begins another, so bytes that begin with a spelling begin with only one.
+/// No spelling begins another one, so bytes that begin with the spelling of one value, list, set, instance or action begin with that of no other.
 pub fn none_begins_another()
     ensures values { NoneBeginsAnother spell_value IsInRange }
     ensures lists { NoneBeginsAnother spell_values AreInRange }
@@ -14,7 +14,7 @@ pub fn none_begins_another()
     ensures actions { NoneBeginsAnother spell_action IsAction }
 {}
 
-/// Each value has one spelling: the bytes that are read as it are its spelling, which is read as it.
+/// Each value in range has one spelling: the bytes that are read as it are its spelling, and its spelling is read as it.
 pub fn one_spelling()
     ensures values { HasOneSpelling spell_value IsInRange value_at }
     ensures lists { HasOneSpelling spell_values AreInRange values_at }
@@ -23,7 +23,7 @@ pub fn one_spelling()
     ensures actions { HasOneSpelling spell_action IsAction action_at }
 {}
 
-/// What a decoder gives can be encoded.
+/// What is in range can be encoded: its counts and lengths have room in a spelling. So what a decoder gives can be encoded again.
 pub fn in_range_is_spellable()
     ensures values { IsEnoughFor IsInRange IsSpellable }
     ensures lists { IsEnoughFor AreInRange AreSpellable }
@@ -32,7 +32,7 @@ pub fn in_range_is_spellable()
     ensures actions { IsEnoughFor IsAction IsSpellableAction }
 {}
 
-/// What is read of any bytes can be encoded.
+/// What a reading gives of any bytes can be encoded: its counts and lengths have room in a spelling.
 pub fn what_is_read_is_spellable()
     ensures values { IsGivenBy value_at IsSpellable }
     ensures lists { IsGivenBy values_at AreSpellable }

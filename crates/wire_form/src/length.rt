@@ -28,7 +28,7 @@ fn input_len(id: &Hash, salt: &Hash, instance: &Instance) -> usize
     instance_len(instance).saturating_add(hash_len(id) + hash_len(salt))
 }
 
-/// The length of a set's spelling.
+/// How many bytes a set's spelling has, or 2^64 - 1 where that is more.
 pub fn parties_len(parties: &PartySet) -> usize
     ensures { result ≡ capped (length (spell_parties parties.now)) }
 {
@@ -39,7 +39,7 @@ pub fn parties_len(parties: &PartySet) -> usize
     len
 }
 
-/// The length of a value's spelling.
+/// How many bytes a value's spelling has, or 2^64 - 1 where that is more.
 pub fn value_len(value: &Value) -> usize
     ensures { result ≡ capped (length (spell_value value.now)) }
 {
@@ -54,7 +54,7 @@ pub fn value_len(value: &Value) -> usize
     }
 }
 
-/// The length of the spelling of a list of values.
+/// How many bytes the spelling of a list of values has, or 2^64 - 1 where that is more.
 pub fn values_len(values: &ValueList) -> usize
     ensures { result ≡ capped (length (spell_values values.now)) }
 {
@@ -65,7 +65,7 @@ pub fn values_len(values: &ValueList) -> usize
     len
 }
 
-/// The length of an instance's spelling.
+/// How many bytes an instance's spelling has, or 2^64 - 1 where that is more.
 pub fn instance_len(instance: &Instance) -> usize
     ensures { result ≡ capped (length (spell_instance instance.now)) }
 {
@@ -73,7 +73,7 @@ pub fn instance_len(instance: &Instance) -> usize
     values_len(instance.fields.as_list()).saturating_add(names)
 }
 
-/// The length of an action's spelling.
+/// How many bytes an action's spelling has, or 2^64 - 1 where that is more.
 pub fn action_len(action: &Action) -> usize
     ensures { result ≡ capped (length (spell_action action.now)) }
 {

@@ -1,4 +1,5 @@
-//! A reader over bytes, field by field.
+//! A reader over bytes, field by field. Each call takes its field from the front; Err says how many bytes were left where the field began that can't
+//! be read, or that there was no memory.
 ghost use Rattle.std.specs.Prelude.{◌≡◌, length, IfOk};
 ghost use Rattle.std.specs.Int.{w32, w64};
 ghost use Rattle.wire_form.specs.Formats.{Gives};
@@ -40,7 +41,7 @@ impl<'a> Reader<'a> {
         self.rest.len()
     }
 
-    /// The next byte.
+    /// Takes the next byte; Err where none is left.
     pub fn byte(&mut self) -> Result<u8, ReaderFault>
         ensures { Gives (λ x. (x, self.new)) result (byte_at self.old) }
     {
@@ -53,7 +54,7 @@ impl<'a> Reader<'a> {
         }
     }
 
-    /// The next bytes, so many, as one field.
+    /// Takes the next `count` bytes, as one field; Err where fewer are left.
     pub fn bytes(&mut self, count: usize) -> Result<&'a [u8], ReaderFault>
         ensures field { Gives (λ x. (x.now, self.new)) result (bytes_at count self.old) }
         ensures len { IfOk result (λ front. length front.now ≡ count) }
@@ -66,7 +67,7 @@ impl<'a> Reader<'a> {
         Ok(front)
     }
 
-    /// A number of four bytes, high first.
+    /// Takes a number of four bytes, high first; Err where fewer bytes are left.
     #[tactic(auto, unfolding(crate::specs::Fields::number_at))]
     pub fn u32(&mut self) -> Result<u32, ReaderFault>
         ensures { Gives (λ x. (x, self.new)) result (number_at w32 self.old) }
@@ -75,7 +76,7 @@ impl<'a> Reader<'a> {
         Ok(u32::from_be_bytes([front[0], front[1], front[2], front[3]]))
     }
 
-    /// A number of eight bytes, high first.
+    /// Takes a number of eight bytes, high first; Err where fewer bytes are left.
     #[tactic(auto, unfolding(crate::specs::Fields::number_at))]
     pub fn u64(&mut self) -> Result<u64, ReaderFault>
         ensures { Gives (λ x. (x, self.new)) result (number_at w64 self.old) }
@@ -86,7 +87,7 @@ impl<'a> Reader<'a> {
         ]))
     }
 
-    /// A whole number of eight bytes in two's complement, high first.
+    /// Takes a whole number of eight bytes in two's complement, high first; Err where fewer bytes are left.
     #[tactic(auto, unfolding(crate::specs::Fields::int_at))]
     pub fn int(&mut self) -> Result<i64, ReaderFault>
         ensures { Gives (λ x. (x, self.new)) result (int_at self.old) }
@@ -97,7 +98,7 @@ impl<'a> Reader<'a> {
         ]))
     }
 
-    /// A count of two bytes, at most `limit`.
+    /// Takes a count of two bytes; Err where it is above `limit` or fewer bytes are left.
     #[tactic(auto, unfolding(crate::specs::Fields::count_at))]
     pub fn count(&mut self, limit: u16) -> Result<u16, ReaderFault>
         ensures { Gives (λ x. (x, self.new)) result (count_at limit self.old) }
@@ -112,7 +113,7 @@ impl<'a> Reader<'a> {
         }
     }
 
-    /// A count of one byte, at most `limit`.
+    /// Takes a count of one byte; Err where it is above `limit` or no byte is left.
     #[tactic(auto, unfolding(crate::specs::Fields::small_count_at))]
     pub fn small_count(&mut self, limit: u8) -> Result<u8, ReaderFault>
         ensures { Gives (λ x. (x, self.new)) result (small_count_at limit self.old) }
@@ -126,7 +127,7 @@ impl<'a> Reader<'a> {
         }
     }
 
-    /// A hash.
+    /// Takes the 32 bytes of a hash; Err where fewer bytes are left.
     #[tactic(auto, unfolding(crate::specs::Fields::hash_at))]
     pub fn hash(&mut self) -> Result<Hash, ReaderFault>
         ensures { Gives (λ x. (x, self.new)) result (hash_at self.old) }
@@ -137,7 +138,7 @@ impl<'a> Reader<'a> {
         Ok(Hash(bytes))
     }
 
-    /// A name with its byte of length, as one field.
+    /// Takes a name with its byte of length, as one field; Err where bytes lack or these aren't a name.
     #[tactic(auto, unfolding(crate::specs::Fields::name_at))]
     pub fn name(&mut self) -> Result<Name, ReaderFault>
         ensures { Gives (λ x. (x, self.new)) result (name_at self.old) }
@@ -155,7 +156,7 @@ impl<'a> Reader<'a> {
         }
     }
 
-    /// A truth value.
+    /// Takes a truth value: one byte, 0 for false and 1 for true; Err where it is another or none is left.
     #[tactic(auto, unfolding(crate::specs::Fields::truth_at))]
     pub fn truth(&mut self) -> Result<bool, ReaderFault>
         ensures { Gives (λ x. (x, self.new)) result (truth_at self.old) }
@@ -168,7 +169,8 @@ impl<'a> Reader<'a> {
         }
     }
 
-    /// A text of at most 256 bytes.
+    /// Takes a text: two bytes of length, at most 256, and so many bytes of UTF-8. A length that is too great is the field that can't be read, and so
+    /// are bytes that lack or aren't UTF-8.
     #[tactic(auto, unfolding(crate::specs::Fields::text_at))]
     pub fn text(&mut self, alloc: Global) -> Result<Text, ReaderFault>
         ensures { Gives (λ x. (x, self.new)) result (text_at self.old) }

@@ -10,7 +10,7 @@ ghost use Rattle.wire_form.specs.Spellable.{AreSpellable, IsSpellable, IsSpellab
 use ledger_terms::limits::{MOST_FIELDS, MOST_PARTIES, MOST_TEXT_BYTES};
 use ledger_terms::{Action, Hash, Instance, Name, PartySet, Text, Value, ValueList};
 
-/// Whether a set has at most 128 names.
+/// Whether a set has at most 128 names, so that it has a spelling.
 pub fn is_spellable_set(parties: &PartySet) -> bool
     ensures exact { IsTrue result ↔ IsSpellableSet parties.now }
     ensures in_range { IsTrue result ↔ IsPartySet parties.now }
@@ -19,7 +19,7 @@ pub fn is_spellable_set(parties: &PartySet) -> bool
     are_names(names) && names.len() <= MOST_PARTIES
 }
 
-/// Whether a value's text has at most 256 bytes, or its set at most 128 names.
+/// Whether a value has a spelling: its text has at most 256 bytes, its set at most 128 names. Of other values it is true.
 pub fn is_spellable(value: &Value) -> bool
     ensures exact { IsTrue result ↔ IsSpellable value.now }
     ensures in_range { IsTrue result ↔ IsInRange value.now }
@@ -35,7 +35,7 @@ pub fn is_spellable(value: &Value) -> bool
     }
 }
 
-/// Whether there are at most 12 values, each spellable.
+/// Whether a list has a spelling: at most 12 values, each of which has one.
 pub fn are_spellable(values: &ValueList) -> bool
     ensures exact { IsTrue result ↔ AreSpellable values.now }
     ensures in_range { IsTrue result ↔ AreInRange values.now }
@@ -50,7 +50,7 @@ fn all_spellable(values: &[Value]) -> bool
     values.iter().all(|value| is_spellable(value))
 }
 
-/// Whether an instance's fields are spellable.
+/// Whether an instance has a spelling: at most 12 fields, each of which has one.
 pub fn is_spellable_instance(instance: &Instance) -> bool
     ensures exact { IsTrue result ↔ IsSpellableInstance instance.now }
     ensures in_range { IsTrue result ↔ IsInstance instance.now }
@@ -60,7 +60,7 @@ pub fn is_spellable_instance(instance: &Instance) -> bool
         && are_spellable(instance.fields.as_list())
 }
 
-/// Whether an action's instance, arguments, actors and result are spellable.
+/// Whether an action has a spelling: its instance, and what it has of arguments, actors and result, each have one.
 pub fn is_spellable_action(action: &Action) -> bool
     ensures exact { IsTrue result ↔ IsSpellableAction action.now }
     ensures in_range { IsTrue result ↔ IsAction action.now }

@@ -8,18 +8,21 @@ use Rattle.canton_model.specs.Checks.{verdicts_owed}
 use Rattle.canton_model.specs.Mediation.{scan}
 use Rattle.world_model.specs.Machine.{Machine}
 
--- What a sender has to know of its response, whatever else stands in the log. It holds of every longer log too.
+-- The response is owed over this log: it has the verdicts that its participant owes to a request of the log that asks it. It is what a sender has to
+-- know of its response, whatever else stands in the log, and holds of every longer log too.
 pub record IsOwed (reading : Reading) (params : Params) (log : List Entry) (response : Response) : Type 0 where
   pub request : Request
+  -- the request stands at the place that the response names
   pub there : request_at log response.request ≡ Some request
   pub confirming : Contains request.confirming response.from
   pub owed : response.verdicts ≡ verdicts_owed reading params response.from (inbox reading response.from (take (suc response.request) log)) response.request
 
--- the same of a verdict
+-- The verdict is the mediator's decision over this log, and so over every longer one; what the mediator has to know of its verdict.
 abbrev pub IsDecision : Params → List Entry → Verdict → Type 0
 IsDecision params log verdict = scan params log verdict.request ≡ Some verdict.decision
 
--- The condition under which `append` keeps a log genuine. There is none for a request: one that isn't framed is refused.
+-- The message may be handed in behind this log, which then stays genuine: a response is owed, a verdict is the decision. Nothing is asked of a Tick,
+-- nor of a request: one that isn't framed is refused.
 abbrev pub MayStand : Machine → List Entry → Message → Type 0
 MayStand m log (RequestMessage request) = Unit {0}
 MayStand m log (ResponseMessage response) = IsOwed m.reading m.params log response

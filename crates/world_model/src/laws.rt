@@ -36,19 +36,20 @@ pub fn each_event_keeps()
     ensures { (m : Machine) (w : World) (event : Event) → IsMachine m → Lawful m w → Lawful m (happens m w event) }
 {}
 
-/// Whatever happens, the log is genuine and within its capacity.
+/// Whatever events happen from the beginning on, the world is lawful, and its log genuine and within its capacity.
 pub fn always_genuine()
     ensures lawful { (m : Machine) (events : List Event) → IsMachine m → Lawful m (played m (new_world m) events) }
     ensures genuine { (m : Machine) (events : List Event) → IsMachine m → GenuineLog m (played m (new_world m) events).log }
 {}
 
-/// A message that is handed in keeps the log within its capacity.
+/// A message that is handed in keeps the log within its capacity, whether it is appended or refused.
 pub fn capacity_stays()
     ensures { (m : Machine) (now : ℕ) (log : List Entry) (message : Message) → reserved log ≤ m.capacity
         → reserved (sequenced m now log message) ≤ m.capacity }
 {}
 
-/// What a thread holds between two locks lands in any longer log, and every beginning of a genuine log is one.
+/// What a thread knows between two locks, while others make the log longer, suffices for what it does next: the log stays genuine with its request,
+/// response or verdict, and a job's response is the one owed. And every beginning of a genuine log is genuine.
 pub fn halves_land()
     ensures request { (m : Machine) (now before : ℕ) (list log : List Entry) (what : Submission) (q : Request)
         → IsMachine m
@@ -73,8 +74,8 @@ pub fn halves_land()
     ensures beginning { (m : Machine) (log : List Entry) (n : ℕ) → GenuineLog m log → GenuineLog m (take n log) }
 {}
 
-/// Passes end: after as many as there is left, a further one appends nothing, and the log is settled, genuine and within its
-/// capacity.
+/// Passes end: after as many as there are responses and verdicts left to come (`left`), a further one appends nothing, and the log is settled,
+/// genuine and within its capacity. A log to which a pass appends nothing is settled.
 pub fn passes_settle()
     ensures settled { (m : Machine) (now : ℕ) (paused : List ParticipantId) (held : Bool) (log : List Entry)
         → Settled m paused held (passes m now paused held (left m.hosts log) log) }
@@ -92,7 +93,7 @@ pub fn passes_settle()
         → reserved (passes m now paused held n log) ≤ m.capacity }
 {}
 
-/// A ready participant's turn leaves the log that its due messages leave.
+/// The messages of a ready participant's turn leave the log that the messages that are due of it leave.
 pub fn turn_appends_what_is_due()
     ensures { (m : Machine) (now : ℕ) (p : ParticipantId) (log : List Entry) (n : ℕ) (node : NodeState)
         → GenuineLog m log
@@ -102,8 +103,8 @@ pub fn turn_appends_what_is_due()
         → append_each m now log (turn_messages m p log node) ≡ append_each m now log (due m log p) }
 {}
 
-/// What is left of a turn after one claim, one response sent or one verdict taken is the rest of it, so a loop that takes them
-/// one by one does what the turn says.
+/// What is left of a turn after one claim, one response sent or one verdict taken is the rest of it, and nothing is left where there is none to
+/// take. So a loop that takes them one by one does what the turn says.
 pub fn one_by_one()
     ensures claim { (reading : Reading) (params : Params) (p : ParticipantId) (node : NodeState) (k : ℕ)
         → next_claim reading params p node ≡ Some k
@@ -127,7 +128,7 @@ pub fn one_by_one()
         → verdict_messages given (cases_of params log) ≡ [] }
 {}
 
-/// After its turn a participant is ready, whatever it has claimed; and others' messages leave it so.
+/// After its turn a participant is ready, whatever it has claimed (`own`); and messages of others, no requests among them, leave it so.
 pub fn ready_stays()
     ensures own { (m : Machine) (now : ℕ) (p : ParticipantId) (log : List Entry) (node : NodeState) → IsReady m p (append_each m now log (due m log p)) node }
     ensures others { (m : Machine) (p : ParticipantId) (log more : List Entry) (node : NodeState)
@@ -137,8 +138,8 @@ pub fn ready_stays()
         → IsReady m p (log ++ more) node }
 {}
 
-/// The participants' half of a pass is what their own turns append; and after it each that isn't paused is ready again,
-/// whatever it has claimed.
+/// What the participants append in their own turns is what a pass has of them; and after it each that isn't paused is ready again, whatever it has
+/// claimed.
 pub fn turns_are_a_pass()
     ensures turns { (m : Machine) (now : ℕ) (paused : List ParticipantId) (nodes : ParticipantId → NodeState) (log : List Entry)
         → IsReading m.reading
@@ -151,7 +152,7 @@ pub fn turns_are_a_pass()
         → IsReady m p (replies_below m now paused log m.hosts) node }
 {}
 
-/// A ready mediator's verdicts, one after another, leave the log that the due verdicts leave.
+/// The verdicts that a ready mediator gives one after another leave the log that the due verdicts leave.
 pub fn mediator_appends_what_is_due()
     ensures { (m : Machine) (now : ℕ) (log : List Entry) (given : List ℕ)
         → GenuineLog m log
@@ -159,7 +160,7 @@ pub fn mediator_appends_what_is_due()
         → append_each m now log (verdict_messages given (cases_of m.params log)) ≡ append_each m now log (due_verdicts m log) }
 {}
 
-/// The mediator is ready after its turn, and others' messages leave it so, if it has given only what is decided.
+/// The mediator is ready after its turn (`own`), and messages of others leave it so, if it has given only what is decided.
 pub fn mediator_ready_stays()
     ensures own { (m : Machine) (now : ℕ) (log : List Entry) (given : List ℕ)
         → ((k : ℕ) → has_place given k ≡ true → (d : Decision) × (scan m.params log k ≡ Some d))
@@ -171,12 +172,12 @@ pub fn mediator_ready_stays()
         → IsMediatorReady params (log ++ more) given }
 {}
 
-/// After the first stage of settling a lawful world is ready.
+/// After the first stage of settling, in which what was lost is put back, a lawful world is ready.
 pub fn resuming_makes_ready()
     ensures { (m : Machine) (paused : List ParticipantId) (w : World) → Lawful m w → WorldReady m paused (resumed_world m w) }
 {}
 
-/// After catching up every participant has read the whole log, and the world is lawful as before.
+/// After catching up every participant has read the whole log, and the world is as lawful as before.
 pub fn catching_up_keeps()
     ensures lawful { (m : Machine) (w : World) → Lawful m w → Lawful m (caught_up_world m w) }
     ensures node { (m : Machine) (w : World) (p : ParticipantId) (node : NodeState)
@@ -185,8 +186,9 @@ pub fn catching_up_keeps()
         → NodeHas m p w.log node }
 {}
 
-/// A pass over a ready world: each participant that isn't paused has its turn and then stands anyhow over what it has read, and
-/// then the mediator. It leaves the log that a pass leaves, and the world ready.
+/// How a pass goes over a ready world. It begins with participant 0; each participant has its turn, after which its state is any one over what it
+/// has read, or is skipped where it is paused; then comes the mediator, unless verdicts are held. The log is then that of a pass, and the world
+/// ready.
 pub fn a_pass_over_a_world()
     ensures begins { (m : Machine) (paused : List ParticipantId) (w : World) → WorldReady m paused w → PassedTo m paused w.log 0 w }
     ensures turn { (m : Machine) (paused : List ParticipantId) (began : List Entry) (p : ParticipantId) (w : World) (node after : NodeState)
@@ -212,7 +214,8 @@ pub fn a_pass_over_a_world()
         × (append_each m w.now w.log (verdict_messages (w.mediator).given (cases_of m.params w.log)) ≡ pass m w.now paused false began) }
 {}
 
-/// What a participant and the mediator have over the entries read is kept by each of their calls.
+/// What holds of a participant's or the mediator's state over the entries that it has read (`NodeHas`, `MediatorHas`) is kept by each of their
+/// calls.
 pub fn calls_keep()
     ensures read { (m : Machine) (p : ParticipantId) (read : List Entry) (node : NodeState) (e : Entry) → NodeHas m p read node
         → NodeHas m p (read ++ e ∷ []) (read_entry m.reading p node read e) }
@@ -239,7 +242,7 @@ pub fn calls_keep()
         → MediatorHas m read (give_back mediator k) }
 {}
 
-/// Passes one after another, and how many are enough.
+/// A pass after n passes is pass n + 1; and where it appends nothing, n passes leave the log that `left` many leave, so that they were enough.
 pub fn passes_add_up()
     ensures next { (m : Machine) (now : ℕ) (paused : List ParticipantId) (held : Bool) (n : ℕ) (log : List Entry)
         → pass m now paused held (passes m now paused held n log) ≡ passes m now paused held (suc n) log }
@@ -248,14 +251,14 @@ pub fn passes_add_up()
         → passes m now paused held n log ≡ passes m now paused held (left m.hosts log) log }
 {}
 
-/// A request that is decided stays so in every longer log.
+/// A request that has a decision in a log has it in every longer log, whatever decision times (`before` and `after`) are asked for.
 pub fn outcome_stays()
     ensures { (log more : List Entry) (k before after : ℕ) (d : Decision)
         → outcome_of (timeline_of log) k before ≡ Decided d
         → outcome_of (timeline_of (log ++ more)) k after ≡ Decided d }
 {}
 
-/// In a settled log a request that nothing hinders is approved.
+/// In a settled log whose verdicts aren't held, the request at place k is approved if nothing hinders it.
 pub fn unhindered_is_approved()
     ensures { (m : Machine) (paused : List ParticipantId) (log : List Entry) (k : ℕ)
         → IsReading m.reading
@@ -265,7 +268,8 @@ pub fn unhindered_is_approved()
         → outcome_of (timeline_of log) k (decision_time_of m.params log k) ≡ Decided Approved }
 {}
 
-/// What one thread answers to a round's submissions, in order, is what a run says of its results, whatever comes after.
+/// The results of one thread's submissions of a round, in order, are right as a run says it, over the log `all` with whatever comes after. The log
+/// in which they begin is of at least `start` entries, and its requests are raw ones or of earlier Sent results.
 pub fn one_thread_answers<F>()
     ensures { (m : Machine) (why : Why F) (now : ℕ) (round : Round) (raws : List Request) (all : List Entry) (start : ℕ) (log after more : List Entry)
         (answers earlier : Results F)
@@ -278,8 +282,8 @@ pub fn one_thread_answers<F>()
         → ResultsHold m why now round raws all start (length all) earlier answers }
 {}
 
-/// What a result says over the list that its thread knew, against the earlier results of its own participant, it says over
-/// every longer log and against all earlier results.
+/// A result that is right over the list that its thread knew, against the earlier results of its own participant (`own`), is right over every longer
+/// log and against all earlier results.
 pub fn results_grow<F>()
     ensures { (m : Machine) (why : Why F) (now : ℕ) (round : Round) (raws : List Request) (list more : List Entry) (start end later : ℕ)
         (own earlier : Results F) (what : Submission) (result : SubmitResult F)
@@ -292,8 +296,9 @@ pub fn results_grow<F>()
         → ResultHolds m why now round raws (list ++ more) start later earlier what result }
 {}
 
-/// Where a participant that isn't paused wants a request of a command that an earlier Sent result of it has, or that a request has
-/// which stood before its part's submissions, as a raw one does, the result is Duplicate with that place, and nothing else.
+/// A submission to a participant that isn't paused is refused as Duplicate with a place, and answered nothing else, where it wants a request of a
+/// command that the participant's request at that place has: one of an earlier Sent result (`sent`), or one that stood there before its part's
+/// submissions, as a raw one does (`standing`).
 pub fn duplicates_are_exact<F>()
     ensures sent { (m : Machine) (why : Why F) (now : ℕ) (round : Round) (raws : List Request) (log : List Entry) (start end : ℕ) (earlier : Results F)
         (what before : Submission) (result : SubmitResult F) (place n : ℕ) (first request : Request)
@@ -322,14 +327,14 @@ pub fn duplicates_are_exact<F>()
         → result ≡ Refused (Duplicate place) (read_of result) }
 {}
 
-/// One thread's part, with its results, is a part as a run says it.
+/// A part as one thread plays it, with its results, is right as a run says it of parts.
 pub fn one_thread_part<F>()
     ensures { (m : Machine) (why : Why F) (now : ℕ) (round : Round) (results : Results F) (before after : List Entry)
         → PlainPart m why now round results before after
         → PartHolds m now round results before after }
 {}
 
-/// One thread's rounds are a run.
+/// Rounds as one thread plays them from the empty log on are right as a run says it.
 pub fn one_thread_run<F>()
     ensures { (m : Machine) (why : Why F) (rounds : List (RoundAnswers F)) (log : List Entry)
         → IsMachine m
@@ -337,7 +342,7 @@ pub fn one_thread_run<F>()
         → RunHolds m why log rounds }
 {}
 
-/// In a short part whose verdicts aren't held a request of it that all approve is approved, a submitted and a raw one.
+/// In a short part whose verdicts aren't held a request at place k of it that all approve is approved, be it a submitted or a raw one.
 pub fn short_part_approves<F>()
     ensures { (m : Machine) (now : ℕ) (round : Round) (results : Results F) (before after : List Entry) (k : ℕ)
         → IsReading m.reading
@@ -350,12 +355,12 @@ pub fn short_part_approves<F>()
         → outcome_of (timeline_of after) k (decision_time_of m.params after k) ≡ Decided Approved }
 {}
 
-/// What holds of every genuine log.
+/// Every genuine log has what `Headline` says, if its reading is one (`IsReading`).
 pub fn headline_of_genuine_log()
     ensures { (reading : Reading) (params : Params) (log : List Entry) → IsReading reading → Genuine reading params log → Headline reading params log }
 {}
 
-/// The requests of a log after any list of events are raw ones, and those that submissions wanted over what their participants had
+/// Each request of a log after any list of events is a raw one, or one that a submission wanted over a beginning of the log that its participant had
 /// read.
 pub fn requests_of_events()
     ensures { (m : Machine) (events : List Event) (k : ℕ) (request : Request)
@@ -366,7 +371,7 @@ pub fn requests_of_events()
         × (m.prepare what (inbox m.reading what.participant (take n (played m (new_world m) events).log)) now ≡ Some request)) }
 {}
 
-/// What holds of every genuine log holds of the log after any list of events.
+/// The log after any list of events has what `Headline` says of genuine logs.
 pub fn headline_of_events()
     ensures { (m : Machine) (events : List Event) → IsMachine m → Headline m.reading m.params (played m (new_world m) events).log }
 {}
@@ -379,7 +384,7 @@ pub fn run_approves<F>()
         → RoundsApprove m log 0 rounds }
 {}
 
-/// The premises can be met, and the definitions compute.
+/// The premises of the laws can be met, and the definitions compute: the events of `Example.antt` make the log of the model's example.
 pub fn example()
     ensures machine { IsMachine Example.machine }
     ensures log { (played Example.machine (new_world Example.machine) Example.events).log ≡ model.log }

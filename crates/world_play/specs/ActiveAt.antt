@@ -15,31 +15,33 @@ use Rattle.prepare_request.specs.Causes.{HasCause, IsRequestOf}
 use Rattle.prepare_request.specs.declared.submit_fault.SubmitFault.{SubmitFault}
 use Rattle.prepare_request.specs.declared.submit_fault.SubmitFault.TheVariants.{Memory}
 
--- the active contracts of a participant that has read n entries of the log, at its cursor
+-- the active contracts of participant p that has read the first n entries of the log, at its cursor n, in order of creation
 abbrev pub active_at : Topology → Packages → List Entry → ParticipantId → (n : ℕ) → List Known
 active_at topology packages log p n =
     map (λ (a : ActiveRow). a.known) (node_active (framed_reading topology packages) p (inbox (framed_reading topology packages) p (take n log)) n)
 
+-- `now` is the time in microseconds at which the submission `what` is prepared, and `read_to` how many entries of the log its participant had read then.
 module _ (topology : Topology) (packages : Packages) (now : ℕ) (log : List Entry) (what : Submission) where
-  -- the request is of the transaction that the submission wants over what its participant knows
+  -- The request is of the transaction that the submission wants over the contracts that are active at its participant at `read_to`.
   abbrev pub Wants : (read_to : ℕ) → Request → Type 0
   Wants read_to request = IsRequestOf topology packages what.participant (active_at topology packages log what.participant read_to) what now request
 
-  -- the request that the submission wants stands at the place
+  -- the request that the submission wants stands in the log at the place
   abbrev pub IsSent : (place read_to : ℕ) → Type 0
   IsSent place read_to = (request : Request) × (request_at log place ≡ Some request) × Wants read_to request
 
-  -- a request with the wanted one's sender and command stands at the place
+  -- another or the same request with the sender and the command of the one that the submission wants stands in the log at the place
   abbrev pub StandsThere : (place read_to : ℕ) → Type 0
   StandsThere place read_to =
       (request : Request) × Wants read_to request × (first : Request) × (request_at log place ≡ Some first) × (first.sender ≡ request.sender)
       × (first.command ≡ request.command)
 
-  -- the wanted request needs so many places of the log: its own, one for each response and one for the verdict
+  -- The request that the submission wants needs `need` places of the log: its own, one for the response of each participant that is asked, and one for
+  -- the verdict.
   abbrev pub Needs : (need read_to : ℕ) → Type 0
   Needs need read_to = (request : Request) × Wants read_to request × (need ≡ 2 + length request.confirming)
 
-  -- What a result says of the submission is so. Nothing is said of want of memory, which no result has.
+  -- What a result says of the submission is so; of Paused nothing is said here. Nothing is said of want of memory either, which no result has.
   abbrev pub IsAnsweredBy : SubmitResult SubmitFault → Type 0
   IsAnsweredBy (Sent place read_to) = IsSent place read_to
   IsAnsweredBy (Refused Paused read_to) = Unit {0}

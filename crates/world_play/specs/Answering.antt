@@ -15,20 +15,23 @@ use Rattle.world_play.specs.Results.{result_of}
 use Rattle.world_play.specs.Parts.{IsParticipant}
 use Rattle.world_play.specs.Submitting.{CanSubmit}
 
--- The submission is this participant's, which is one of the topology, and it names only parties of the topology.
+-- The node is the participant of the submission `what` and one of the topology, it has read a beginning of the sequencer's log, and the submission names
+-- only parties of the topology. That is the premise of `answer`.
 pub record CanAnswer (m : Machine) (node : NodeValue) (what : Submission) (sequencer : Sequenced) : Type 0 where
   pub is : IsParticipant m what.participant node sequencer
   pub is_host : what.participant < length (node.topology).hosts
   pub can : CanSubmit node.topology node.packages what
 
--- the answer of a participant that isn't paused and has read all of the log, and the log after it
+-- What a participant that isn't paused and has read all of the log `before` answers to the submission at the time `now`; `after` is the log with what it
+-- handed in.
 abbrev pub AnswersAwake : Machine → Topology → Packages → (now : ℕ) → (before : List Entry) → Submission → SubmitResult → (after : List Entry)
     → Type 0
 AnswersAwake m topology packages now before what answer after =
     AnswersWanted m (why_of topology packages what (read_at m before what (length before)) now) now before (wanted_at m now before what (length before))
     (result_of answer) after
 
--- the answer of a participant in a round, and the log after it
+-- What a participant, paused or not, answers to the submission in a round whose time is `now`; `before` is the log before the answer, and `after` the log
+-- after it.
 abbrev pub IsAnswer : Machine → Topology → Packages → (now : ℕ) → Round → (before : List Entry) → Submission → SubmitResult
     → (after : List Entry) → Type 0
 IsAnswer m topology packages now round before what answer after =

@@ -8,7 +8,8 @@ use Rattle.mediator.specs.KeptCases.{KeptMediator}
 use Rattle.seq_log.specs.Sequenced.{Sequenced}
 use Rattle.world_play.specs.Worlds.{IsMediatorOf}
 
--- The mediator and the log are, after the event, what they are in every world where they were so before.
+-- What an event of the mediator does: of a mediator with the state `state` and the log `log` it makes mediator' and log', in a world with any time and
+-- any participants, which stay as they are.
 abbrev pub Decides : Machine → Event → (state : MediatorState) → (log : Sequenced) → (mediator' : KeptMediator) → (log' : Sequenced) → Type 0
 Decides m event state log mediator' log' =
     (after : MediatorState) × IsMediatorOf m after mediator'

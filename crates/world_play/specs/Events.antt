@@ -8,6 +8,7 @@ use Rattle.world_play.specs.declared.event.Event.TheVariants.{Advance, Submit, S
 use Rattle.world_play.specs.declared.event.Event.TheVariants.{LoseVerdict, Pause}
 use Rattle.world_play.specs.Submitting.{CanSubmit}
 
+-- an event of the code as the event of the world model that it stands for
 abbrev pub event_of : Event → w.Event
 event_of (Advance by) = w.Advance by
 event_of (Submit what) = w.Submit what
@@ -21,10 +22,11 @@ event_of GiveVerdict = w.GiveVerdict
 event_of LoseVerdict = w.LoseVerdict
 event_of (Pause node paused) = w.Pause node paused
 
+-- the same of each event of a list, in order
 abbrev pub events_of : List Event → List w.Event
 events_of events = map event_of events
 
--- by how much time moves on
+-- by how many microseconds the event moves time on: 0 but for Advance
 abbrev pub advance_of : Event → ℕ
 advance_of (Advance by) = by
 advance_of (Submit what) = 0
@@ -38,11 +40,13 @@ advance_of GiveVerdict = 0
 advance_of LoseVerdict = 0
 advance_of (Pause node paused) = 0
 
+-- by how many microseconds all events of a list together move time on
 abbrev pub advance_in : List Event → ℕ
 advance_in [] = 0
 advance_in (event ∷ rest) = advance_of event + advance_in rest
 
--- The event may happen. Where it is a submission, this names only parties of the topology, which is valid, and so do the packages.
+-- The event may happen. A submission asks that the topology is valid and that it and the packages name only parties of the topology; any other event asks
+-- nothing.
 abbrev pub CanHappen : Topology → Packages → Event → Type 0
 CanHappen topology packages (Advance by) = Unit {0}
 CanHappen topology packages (Submit what) = CanSubmit topology packages what

@@ -13,7 +13,7 @@ use Rattle.node_core.specs.Participant.{Participant as NodeValue}
 use Rattle.world_play.specs.declared.moving.NodeMove.{NodeMove}
 use Rattle.world_play.specs.declared.moving.NodeMove.TheVariants as move
 
--- the event, at a participant
+-- what a participant may do, as the event of the world model in which participant p does it
 abbrev pub event_at : NodeMove → ParticipantId → Event
 event_at move.Read p = NodeRead p
 event_at move.Validate p = Validate p
@@ -21,14 +21,15 @@ event_at move.Reply p = Reply p
 event_at move.LoseReply p = LoseReply p
 event_at (move.Pause paused) p = Pause p paused
 
--- Participant p and the log are, after the event, what they are in every world where they were so before.
+-- What an event of participant p does: of its node and the log it makes node' and log', in a world with any time, mediator and other participants, which
+-- stay as they are.
 abbrev pub Happens : Machine → ParticipantId → Event → (node : NodeValue) → (log : Sequenced) → (node' : NodeValue) → (log' : Sequenced) → Type 0
 Happens m p event node log node' log' =
     (now : ℕ) (mediator : MediatorState) (nodes : List NodeState) → slice_get nodes p ≡ Some (state_over log.list node)
     → record { log = log'.list; now = now; mediator = mediator; nodes = set_at nodes p (state_over log'.list node') }
     ≡ happens m (record { log = log.list; now = now; mediator = mediator; nodes = nodes }) event
 
--- a participant's state once it has claimed a place and finished the job there, where there is a place to be claimed
+-- a participant's state once it has claimed the place k and finished the job there; the state as it was where there is no place to claim
 abbrev pub validated_if : Reading → Params → ParticipantId → NodeState → Option ℕ → NodeState
 validated_if reading params p node None = node
 validated_if reading params p node (Some k) = validate reading params p node k

@@ -14,7 +14,7 @@ use Rattle.node_core.specs.Participant.{Participant as NodeValue}
 use Rattle.node_core.specs.Machines.{IsNodeOf}
 use Rattle.node_core.specs.OverLog.{HasInbox, inbox_over, state_over}
 
--- The node is participant p of the machine, and has read a beginning of the sequencer's log, which is genuine.
+-- The node is participant p of the machine, and has read the first `read` entries of the sequencer's log, which is genuine.
 pub record IsParticipant (m : Machine) (p : ParticipantId) (node : NodeValue) (sequencer : Sequenced) : Type 0 where
   pub is_reading : IsReading m.reading
   pub is_for : IsFor m sequencer
@@ -25,7 +25,8 @@ pub record IsParticipant (m : Machine) (p : ParticipantId) (node : NodeValue) (s
   pub has : NodeHas m p (take read sequencer.list) (state_over sequencer.list node)
   pub inbox : HasInbox (inbox_over sequencer.list node) node
 
--- the log of a sequencer goes on, and nothing else of it changes
+-- The sequencer `after` has the log of `before` with `more` at its end, or the same log. Its row, capacity and times are the same, and the same requests
+-- are framed.
 pub record GoesOn (before after : Sequenced) : Type 0 where
   pub row : after.row ≡ before.row
   pub capacity : after.capacity ≡ before.capacity
@@ -34,7 +35,7 @@ pub record GoesOn (before after : Sequenced) : Type 0 where
   pub more : List Entry
   pub is_more : after.list ≡ before.list ++ more
 
--- The mediator has read n entries of a genuine log, and keeps this state.
+-- The mediator has read the first n entries of the sequencer's log, which is genuine, and keeps what the state has of requests without a verdict.
 pub record IsMediator (m : Machine) (state : MediatorState) (n : ℕ) (mediator : KeptMediator) (sequencer : Sequenced) : Type 0 where
   pub is_for : IsFor m sequencer
   pub behind : SequencerBehind m sequencer.list
@@ -43,7 +44,7 @@ pub record IsMediator (m : Machine) (state : MediatorState) (n : ℕ) (mediator 
   pub within : n ≤ length sequencer.list
   pub has : MediatorHas m (take n sequencer.list) state
 
--- the mediator keeps this state, and has read all of the log
+-- The mediator has read all of the log, and keeps what the state has of requests without a verdict.
 pub record HasAll (m : Machine) (state : MediatorState) (mediator : KeptMediator) (log : List Entry) : Type 0 where
   pub params : mediator.params ≡ m.params
   pub keeps : Keeps mediator state

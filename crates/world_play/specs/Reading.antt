@@ -7,16 +7,16 @@ use Rattle.world_model.specs.Node.{with_items}
 use Rattle.node_core.specs.OverLog.{HasInbox, inbox_over, kept_of}
 use Rattle.node_core.specs.Participant.{Participant as NodeValue, reading_of, with_state}
 
--- the participant once it has read just these entries: its items are what it keeps of their inbox
+-- the participant once it has read just these entries, the first of a log, and nothing else of it is changed: its items are what it keeps of their inbox
 abbrev pub has_read : NodeValue → List Entry → NodeValue
 has_read node read = with_state node (with_items node.state (kept_of node (inbox (reading_of node) node.me read)))
 
--- The log is genuine, and the participant has read a beginning of it.
+-- The log is genuine, and the participant has read a beginning of it: what `read_to_end` asks.
 pub record Reads (node : NodeValue) (log : List Entry) : Type 0 where
   pub genuine : Genuine (reading_of node) (node.topology).params log
   pub inbox : HasInbox (inbox_over log node) node
 
--- The node is `first` once this has read on to some place of the log.
+-- The node is what `first` becomes when it reads on to some place of the log, `read`.
 pub record IsReader (first : NodeValue) (log : List Entry) (node : NodeValue) : Type 0 where
   pub read : ℕ
   pub from : length (first.state).items ≤ read

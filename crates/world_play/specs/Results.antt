@@ -10,7 +10,8 @@ use Rattle.node_core.specs.declared.submit_result.SubmitResult.{SubmitResult}
 use Rattle.node_core.specs.declared.submit_result.SubmitResult.TheVariants.{Sent, Refused}
 use Rattle.world_model.specs.Rounds as w
 
--- what is said of a submission that wants no request is its own fault
+-- A fault of the code as one of the world model. NotHosted, Command, Split and Memory say that the submission wants no request: there they are Unwanted,
+-- with the fault inside.
 abbrev pub fault_of : SubmitFault → w.SubmitFault SubmitFault
 fault_of Paused = w.Paused
 fault_of (NotHosted party) = w.Unwanted (NotHosted party)
@@ -20,20 +21,21 @@ fault_of (Duplicate place) = w.Duplicate place
 fault_of (LogFull reserved need) = w.LogFull reserved need
 fault_of Memory = w.Unwanted Memory
 
+-- a result of the code as one of the world model
 abbrev pub result_of : SubmitResult → w.SubmitResult SubmitFault
 result_of (Sent place read_to) = w.Sent place read_to
 result_of (Refused fault read_to) = w.Refused (fault_of fault) read_to
 
--- submissions with their results
+-- submissions paired with their results, the first with the first, as the world model has them
 abbrev pub results_of : List Submission → List SubmitResult → w.Results SubmitFault
 results_of submits results = zip submits (map result_of results)
 
--- where the result says that a request was sent, the log reaches to the request's place
+-- Where the result says that a request was sent, the log reaches beyond the request's place. A refusal says nothing here.
 abbrev pub IsPlaced : List Entry → SubmitResult → Type 0
 IsPlaced log (Sent place read_to) = place < length log
 IsPlaced log (Refused fault read_to) = Unit {0}
 
--- the result is no refusal for want of memory, nor one whose fault holds want of memory
+-- the result is neither a refusal for want of memory nor one whose fault holds want of memory
 abbrev pub IsPlainResult : SubmitResult → Type 0
 IsPlainResult (Sent place read_to) = Unit {0}
 IsPlainResult (Refused fault read_to) = (fault ≢ Memory) × HoldsNoMemory fault

@@ -4,12 +4,12 @@ use Rattle.ledger_model.specs.Terms.{ParticipantId}
 use Rattle.world_model.specs.Messages.{Request}
 use Rattle.world_model.specs.Places.{has_place}
 
--- the request asks p
+-- whether the request asks participant p for a response; false where there is no request
 abbrev pub asks : (p : ℕ) → Option Request → Bool
 asks p None = false
 asks p (Some request) = has_place request.confirming p
 
--- p, where the request asks it
+-- p, where the request asks participant p; None where it doesn't, or there is no request
 abbrev pub asked : (p : ℕ) → Option Request → Option ParticipantId
 asked p None = None
 asked p (Some request) = find (nat_eq p) request.confirming

@@ -20,18 +20,21 @@ use Rattle.world_play.specs.Submitting.{AreSetUp}
 use Rattle.world_play.specs.WorldOf.{IsWorldOf, world_of}
 use Rattle.world_play.specs.declared.world.World.{World}
 
--- the slip is that of the request that was sent, over the log; or nothing was sent, for the cause that is told
+-- What `World::submit` returns for an answer, with the sequencer after it: for Sent the slip of the request's entry, which ties the log up to that entry;
+-- for Refused an Err with the same fault and the same number of entries read.
 abbrev pub IsSlipOf : SubmitResult → Sequenced → Result LogPrefix SubmitRefusal → Type 0
 IsSlipOf (Sent place read_to) log (Ok slip) = slip ≡ prefix_to (prefix_of log) (place + 1)
 IsSlipOf (Sent place read_to) log (Err refusal) = ⊥
 IsSlipOf (Refused fault read_to) log (Ok slip) = ⊥
 IsSlipOf (Refused fault read_to) log (Err refusal) = refusal ≡ record { fault = fault; read_to = read_to }
 
+-- the result is an Err for want of memory
 abbrev pub IsOutOfMemory : Result LogPrefix SubmitRefusal → Type 0
 IsOutOfMemory (Ok slip) = ⊥
 IsOutOfMemory (Err refusal) = refusal.fault ≡ Memory
 
--- The answer, and how the log goes on, are those of the submission's participant, in whatever round has just these participants paused.
+-- A submission to the first world has this answer, and makes the second world: the answer and the log after it are those of the submission's participant,
+-- in whatever round has just these participants paused.
 abbrev pub IsAnsweredBy : SubmitResult → World → Submission → World → Type 0
 IsAnsweredBy answer before what after =
     (m : Machine) (state : MediatorState) (topology : Topology) (packages : Packages) (round : Round) → IsWorldOf m state before

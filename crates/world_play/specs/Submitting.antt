@@ -14,25 +14,26 @@ use Rattle.node_core.specs.Preparing.{offered_by}
 use Rattle.node_core.specs.Machines.{wanted_request}
 use Rattle.node_core.specs.OverLog.{inbox_over}
 
--- The request that a submission wants of a participant over a log: none where there is no such participant, or it is paused.
+-- The request that a submission wants of its participant at the time `now`, over what this has read of the log. None where there is no such participant,
+-- it is paused, or the submission wants no request.
 abbrev pub wanted_of : List Entry → Submission → (now : ℕ) → Option NodeValue → Option Request
 wanted_of log what now None = None
 wanted_of log what now (Some node) =
     if (node.state).is_paused then None else wanted_request node.topology node.packages what (inbox_over log node) now
 
--- The submission is this participant's, the topology is valid, and packages, what the participant offers and the submission name only
--- parties of it.
+-- The submission is this participant's, the topology is valid, and the packages, the contracts that the participant offers and the submission name only
+-- parties of the topology: what `Node::prepare` asks.
 pub record CanPrepare (node : NodeValue) (what : Submission) : Type 0 where
   pub own : what.participant ≡ node.me
   pub valid : IsValid node.topology
   pub within : IsWithin node.topology node.packages node.me (offered_by node) what
 
--- there is a participant for each host, over this topology and these packages
+-- there is one node for each host of the topology, and each has this topology and these packages
 pub record AreSetUp (topology : Topology) (packages : Packages) (nodes : List NodeValue) : Type 0 where
   pub many : length nodes ≡ length topology.hosts
   pub each : (p : ParticipantId) (node : NodeValue) → slice_get nodes p ≡ Some node → (node.topology ≡ topology) × (node.packages ≡ packages)
 
--- the topology is valid, and packages and the submission name only parties of it
+-- the topology is valid, and the packages and the submission name only parties of it
 pub record CanSubmit (topology : Topology) (packages : Packages) (what : Submission) : Type 0 where
   pub valid : IsValid topology
   pub named_by_packages : AreKnown (is_hosted topology) (parties_in_packages packages)

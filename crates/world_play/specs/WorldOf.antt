@@ -5,11 +5,11 @@ use Rattle.world_model.specs.World.{World as WorldState}
 use Rattle.world_play.specs.declared.world.World.{World}
 use Rattle.world_play.specs.Worlds.{world_with, AreNodesOf, IsMediatorOf}
 
--- the world, where the mediator keeps this state
+-- what the synchroniser is in the world model, where its mediator keeps the state
 abbrev pub world_of : MediatorState → World → WorldState
 world_of state world = world_with world.now state (world.nodes).items world.sequencer
 
--- The synchroniser stands for that world: its nodes are the machine's participants, and its mediator keeps this state.
+-- The synchroniser stands for a world of this machine: its nodes are the machine's participants, and its mediator keeps the state.
 pub record IsWorldOf (m : Machine) (state : MediatorState) (world : World) : Type 0 where
   pub nodes : AreNodesOf m (world.nodes).items world.sequencer
   pub mediator : IsMediatorOf m state world.mediator

@@ -11,19 +11,19 @@ use Rattle.node_core.specs.Participant.{Participant as NodeValue}
 use Rattle.node_core.specs.Machines.{IsNodeOf}
 use Rattle.node_core.specs.OverLog.{HasInbox, inbox_over, state_over}
 
--- The world of these parts, where the mediator keeps this state. What participants have read is told by the log, of which they may have
--- pruned a beginning.
+-- The world of a time, a mediator's state, nodes in the order of the topology and a sequencer. The nodes' inboxes are whole there: what a node has pruned
+-- is told by the log.
 abbrev pub world_with : (now : ℕ) → MediatorState → List NodeValue → Sequenced → World
 world_with now mediator nodes sequencer = record { log = sequencer.list; now = now; mediator = mediator; nodes = map (state_over sequencer.list) nodes }
 
--- the nodes are the machine's participants, in order, and each has read a beginning of the log
+-- the nodes are the machine's participants, in the order of the topology, and each has read a beginning of the log
 pub record AreNodesOf (m : Machine) (nodes : List NodeValue) (sequencer : Sequenced) : Type 0 where
   pub is_reading : IsReading m.reading
   pub is_for : IsFor m sequencer
   pub node : (p : ParticipantId) (node : NodeValue) → slice_get nodes p ≡ Some node → IsNodeOf m p node
   pub inbox : (p : ParticipantId) (node : NodeValue) → slice_get nodes p ≡ Some node → HasInbox (inbox_over sequencer.list node) node
 
--- the mediator is the machine's, and keeps this state
+-- the mediator has the machine's times, and keeps what the state has of requests without a verdict
 pub record IsMediatorOf (m : Machine) (state : MediatorState) (mediator : KeptMediator) : Type 0 where
   pub params : mediator.params ≡ m.params
   pub keeps : Keeps mediator state

@@ -87,8 +87,9 @@ fn answer_awake(
     }
 }
 
-/// The participant of a submission answers it. Where it isn't paused, it reads to the end of the log and hands in the request that the
-/// submission wants, if it wants one. `now` is the time of the round in microseconds. After want of memory it may have read some of the log.
+/// The participant of a submission answers it. Where it isn't paused, it reads to the end of the log and hands in the request that the submission wants,
+/// if it wants one. `now` is the time of the round in microseconds. The result has the place of the request that was sent, or why none was. After want of
+/// memory the participant may have read some of the log.
 pub fn answer(
     natives: &NativeList,
     node: &mut Node<'_>,

@@ -49,9 +49,8 @@ fn set_paused(nodes: &mut NodeList<'_>, paused: &[ParticipantId])
     set_paused_slice(nodes.as_mut_slice(), paused);
 }
 
-/// A round begins: `paused` are the participants that take no submissions from now on, and no others; time moves on by so many
-/// microseconds, of which a Tick tells where they are more than none. After want of memory the participants are paused, and time
-/// stands still.
+/// A round begins: `paused` are the participants that are paused from now on, and no others, and time moves on by `advance` microseconds, of which a Tick
+/// tells where they are more than none. After want of memory the participants are paused, and time stands still.
 pub fn begin_round(
     world: &mut World<'_>,
     advance: u64,

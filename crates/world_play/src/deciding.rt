@@ -12,7 +12,7 @@ use mediator::Mediator;
 use seq_log::Sequencer;
 use std::alloc::AllocError;
 
-/// The mediator reads the entry at its cursor, where one stands there.
+/// The mediator reads the entry at its cursor; where none stands there nothing happens.
 pub fn read_next(mediator: &mut Mediator, sequencer: &mut Sequencer<'_>) -> Result<(), AllocError>
     requires { (m : Machine) × (state : MediatorState) × (n : ℕ) × IsMediator m state n mediator.old sequencer.old }
     ensures log { sequencer.new ≡ sequencer.old }
@@ -27,7 +27,8 @@ pub fn read_next(mediator: &mut Mediator, sequencer: &mut Sequencer<'_>) -> Resu
     Ok(())
 }
 
-/// The mediator gives its next verdict, and this is handed in to the sequencer.
+/// The mediator takes its next verdict, which is handed in to the sequencer; without one nothing happens. After want of memory the verdict may be taken
+/// and lost.
 pub fn give(mediator: &mut Mediator, sequencer: &mut Sequencer<'_>) -> Result<(), AllocError>
     ensures on { GoesOn sequencer.old sequencer.new }
     ensures ok { OnOk result ((m : Machine) (state : MediatorState) (n : ℕ) → IsMediator m state n mediator.old sequencer.old
@@ -39,7 +40,7 @@ pub fn give(mediator: &mut Mediator, sequencer: &mut Sequencer<'_>) -> Result<()
     Ok(())
 }
 
-/// The mediator gives its next verdict, and this is lost.
+/// The mediator takes its next verdict, which is lost; without one nothing happens. After want of memory none was taken.
 pub fn lose(mediator: &mut Mediator) -> Result<(), AllocError>
     ensures ok { OnOk result ((m : Machine) (state : MediatorState) (n : ℕ) (log : Sequenced) → IsMediator m state n mediator.old log
         → Decides m LoseVerdict state log mediator.new log) }

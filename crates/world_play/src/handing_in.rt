@@ -1,4 +1,4 @@
-//! How responses and verdicts are handed in to the sequencer.
+//! How requests, responses and verdicts are handed in to the sequencer.
 ghost use Rattle.std.specs.Prelude.{◌≡◌, ℕ, OnErr, OnOk};
 ghost use Rattle.world_model.specs.Messages.{RequestMessage, ResponseMessage, VerdictMessage};
 ghost use Rattle.world_model.specs.Machine.{Machine};
@@ -41,7 +41,7 @@ pub fn hand_in_response(sequencer: &mut Sequencer<'_>, response: Response) -> Re
     hand_in(sequencer, Message::Response(response))
 }
 
-/// Appends the verdict, likewise.
+/// Appends the verdict. One that stands in the log already, or comes too late, is dropped. After want of memory all is as before.
 pub fn hand_in_verdict(sequencer: &mut Sequencer<'_>, verdict: Verdict) -> Result<(), AllocError>
     ensures on { GoesOn sequencer.old sequencer.new }
     ensures ok { OnOk result ((m : Machine) (now : ℕ) → IsFor m sequencer.old
@@ -53,8 +53,8 @@ pub fn hand_in_verdict(sequencer: &mut Sequencer<'_>, verdict: Verdict) -> Resul
     hand_in(sequencer, Message::Verdict(verdict))
 }
 
-/// Appends the request. One whose sender and command stand in the log already, that isn't framed, or for which there is no room, is
-/// dropped.
+/// Appends the request. One whose sender and command stand in the log already, that isn't framed, or for which there is no room, is dropped. After want
+/// of memory all is as before.
 pub fn hand_in_request(sequencer: &mut Sequencer<'_>, request: Request) -> Result<(), AllocError>
     ensures on { GoesOn sequencer.old sequencer.new }
     ensures ok { OnOk result ((m : Machine) (now : ℕ) → IsFor m sequencer.old

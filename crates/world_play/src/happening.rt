@@ -94,7 +94,7 @@ fn verdict_is_lost(world: &mut World<'_>) -> Result<(), AllocError>
     lose(&mut world.mediator)
 }
 
-/// The event happens to the synchroniser. One with nothing to do changes nothing.
+/// The event happens to the synchroniser. One that finds nothing to do changes nothing. After want of memory it may have happened in part.
 pub fn happen<'r>(
     alloc: Global,
     natives: &'r NativeList,

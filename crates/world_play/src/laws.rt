@@ -13,8 +13,8 @@ ghost use Rattle.world_play.specs.OwnRequests.{IsOwnRequest};
 
 use prepare_request::laws::{faults_have_causes, prepared_requests_are_wanted};
 
-/// What a result of a run says is so of the transaction that the submission wants over its participant's active contracts at what it
-/// had read: the request that was sent is of it, and a refusal has its cause over the same contracts.
+/// A result of a run tells the truth of the transaction that the submission wants over its participant's active contracts at what it had read: a request
+/// that was sent is of that transaction, and a refusal has its cause over these contracts.
 pub fn submissions_know_active_contracts()
     ensures { (topology : Topology) (packages : Packages) (capacity now : ℕ) (round : Round) (raws : List Request) (log : List Entry) (end : ℕ)
         (earlier : Results SubmitFault) (what : Submission) (result : SubmitResult SubmitFault)
@@ -27,7 +27,7 @@ pub fn submissions_know_active_contracts()
     faults_have_causes();
 }
 
-/// The request of a Sent result is of the transaction that its submission wants, and opens it by the rules.
+/// The request of a Sent result is of the transaction that its submission wants, and its envelopes open to each participant what it sees of that.
 pub fn sent_requests_open_by_the_rules()
     ensures { (topology : Topology) (packages : Packages) (capacity now : ℕ) (log : List Entry) (end : ℕ) (what : Submission) (place read_to : ℕ)
         → SentHolds (machine_of topology packages capacity) now log end what place read_to

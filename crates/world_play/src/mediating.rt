@@ -43,7 +43,8 @@ fn give_all(mediator: &mut Mediator, sequencer: &mut Sequencer<'_>) -> Result<()
     Ok(())
 }
 
-/// The mediator reads to the end and, unless verdicts are held, hands in its verdicts in order.
+/// The mediator reads to the end and, unless `hold_verdicts`, hands in its verdicts in order. After want of memory it has read some of the log, and a
+/// verdict may be taken and lost.
 pub fn mediate(
     mediator: &mut Mediator,
     sequencer: &mut Sequencer<'_>,

@@ -161,7 +161,8 @@ fn move_slice<'r>(
     Ok(())
 }
 
-/// What the participant with this index does in an event, where there is one.
+/// The participant whose index is `at` does what the event says. Nothing happens where there is no such participant, or it has nothing to do. After want
+/// of memory a job may be left claimed.
 pub fn move_node<'r>(
     alloc: Global,
     natives: &'r NativeList,

@@ -77,7 +77,8 @@ fn take_turns<'r>(
     take_turns_slice(alloc, natives, nodes.as_mut_slice(), sequencer, paused)
 }
 
-/// Each participant that isn't paused has its turn, and then the mediator. After want of memory the pass was made in part.
+/// Each participant that isn't one of `paused` has its turn, in order, and then the mediator, which hands in no verdicts where `hold_verdicts`. After
+/// want of memory the pass was made in part.
 pub fn pass<'r>(
     alloc: Global,
     natives: &'r NativeList,

@@ -6,7 +6,7 @@ use node_core::Node;
 use seq_log::Sequencer;
 use std::alloc::AllocError;
 
-/// The participant reads every entry that it hasn't read. After want of memory it has read some of them.
+/// The participant reads every entry of the log that it hasn't read. After want of memory it has read some of them.
 pub fn read_to_end(node: &mut Node<'_>, sequencer: &mut Sequencer<'_>) -> Result<(), AllocError>
     requires { Reads node.old sequencer.old.list }
     ensures same { sequencer.new ≡ sequencer.old }

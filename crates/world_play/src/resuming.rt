@@ -102,8 +102,8 @@ fn resume_mediator(mediator: &mut Mediator, sequencer: &Sequencer<'_>)
     }
 }
 
-/// Each participant puts back each request that it has read and to which it owes a response, and the mediator is given back the
-/// verdict on each undecided request that it has read.
+/// What comes first where a synchroniser settles: each participant puts back each request that it has read and to which it owes a response, so that it
+/// claims it again, and the mediator is given back the verdict on each undecided request that it has read, so that it takes it again.
 pub fn resume(world: &mut World<'_>)
     requires { (m : Machine) × (state : MediatorState) × IsWorldOf m state world.old × Lawful m (world_of state world.old) }
     ensures log { world.new.sequencer ≡ world.old.sequencer }

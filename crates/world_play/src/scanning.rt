@@ -12,6 +12,7 @@ use canton_model::{Entry, Message};
 use ledger_terms::ParticipantId;
 use seq_log::Sequencer;
 
+// The participant with this index among these, None where it isn't there.
 fn named(participants: &[ParticipantId], at: usize) -> Option<&ParticipantId>
     ensures { option_copied result ≡ find (nat_eq at) participants.now }
 {
@@ -20,6 +21,7 @@ fn named(participants: &[ParticipantId], at: usize) -> Option<&ParticipantId>
         .find(|participant| at == participant.0 as usize)
 }
 
+// The participant with this index, where the entry is a request that asks it.
 fn asked(at: usize, entry: &Entry) -> Option<ParticipantId>
     ensures { result ≡ asked at (request_of entry.now.message) }
 {
@@ -40,7 +42,7 @@ fn asked_at(sequencer: &mut Sequencer<'_>, place: u64, at: usize) -> Option<Part
     }
 }
 
-/// Whether the participant with this index owes a response to the open request at a place.
+/// Whether the participant with the index `at` owes a response to the open request at `place`: it is asked there, and hasn't responded.
 pub fn is_due(sequencer: &mut Sequencer<'_>, place: u64, at: usize) -> bool
     requires { is_open (sequencer.old.topology).params sequencer.old.list place ≡ true }
     ensures same { sequencer.new ≡ sequencer.old }

@@ -13,7 +13,8 @@ use node_core::Node;
 use seq_log::Sequencer;
 use std::alloc::{AllocError, Global};
 
-/// The participant sends all that waits in its outbox, in order of place.
+/// The participant sends all that waits in its outbox, in order of place. A response that stands in the log already, or comes too late, is dropped. After
+/// want of memory what wasn't sent waits still.
 pub fn send_all(
     alloc: Global,
     node: &mut Node<'_>,

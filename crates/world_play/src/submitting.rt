@@ -55,7 +55,8 @@ fn wanted(
     request_of(nodes[at].prepare(natives, what, now))
 }
 
-/// A participant that isn't paused hands in the request of a submission, where it wants one.
+/// The event of a submission: its participant, unless it is paused, hands in the request that the submission wants over what it has read, if it wants
+/// one. A request that the sequencer refuses is dropped. After want of memory the log is as it was.
 pub fn submit(
     natives: &NativeList,
     world: &mut World<'_>,
@@ -76,8 +77,8 @@ pub fn submit(
     Ok(())
 }
 
-/// Time moves on by so many microseconds, and a Tick tells of it where they are more than none. After want of memory time stands
-/// still.
+/// Time moves on by `by` microseconds, and a Tick is appended where these are more than none. After want of memory time stands still, and no Tick has
+/// come.
 pub fn advance(world: &mut World<'_>, by: u64) -> Result<(), AllocError>
     requires { world.old.now + by ≤ 10 ^ 16 }
     ensures on { GoesOn world.old.sequencer world.new.sequencer }

@@ -136,9 +136,9 @@ fn slip_of<'r>(
 }
 
 impl<'r> World<'r> {
-    /// What comes of a submission: its participant, unless it is paused, reads to the end of the log, and hands in the request that the
-    /// submission wants. The slip is that of the request, which was appended when just the entries before it had been read. After want of
-    /// memory the participant may have read some of the log.
+    /// The participant of the submission, unless it is paused, reads to the end of the log, and hands in the request that the submission wants. The slip
+    /// is that of the request, which was appended when just the entries before it had been read. An Err says why none was sent, and how many entries had
+    /// been read, 0 after want of memory: then the participant may have read some of the log.
     pub fn submit(
         &mut self,
         natives: &NativeList,
@@ -170,9 +170,9 @@ impl<'r> World<'r> {
     }
 }
 
-/// What comes of submissions, in their order. A participant that isn't paused reads to the end of the log before its request is
-/// prepared; then the request is handed in. The results are put at the end of `results`. After want of memory some of the
-/// submissions were handed in, and `results` has what came of some of those at its end.
+/// The submissions are answered by their participants, in order. A participant that isn't paused reads to the end of the log, and hands in the request
+/// that the submission wants. The results are put at the end of `results`, in the same order. After want of memory some of the submissions were handed
+/// in, and `results` has what came of some of those at its end.
 pub fn submit_each(
     natives: &NativeList,
     world: &mut World<'_>,

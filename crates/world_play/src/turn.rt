@@ -17,7 +17,8 @@ use node_core::Node;
 use seq_log::Sequencer;
 use std::alloc::{AllocError, Global};
 
-/// The participant reads to the end, finishes its jobs in order of place and sends its responses in order.
+/// The participant reads to the end, finishes its jobs in order of place and sends its responses in order. After want of memory it has done some of that,
+/// and a job may be left claimed.
 pub fn take_turn<'r>(
     alloc: Global,
     natives: &'r NativeList,

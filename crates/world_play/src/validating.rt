@@ -16,7 +16,7 @@ use node_core::Node;
 use std::alloc::{AllocError, Global};
 use validate_job::{Finished, ValidateJob};
 
-/// Checks all views of a job, one after another. A choice that `natives` has is asked of them in place of the language.
+/// Checks all views of a job, one after another, and gives the verdicts on them. A choice that `natives` has is asked of them in place of the language.
 pub fn run_job(natives: &NativeList, job: ValidateJob<'_>) -> Result<Finished, AllocError>
     requires { 0 < job.left }
     ensures { IfOk result (IsOutcome job.entry.given) }
@@ -29,7 +29,8 @@ pub fn run_job(natives: &NativeList, job: ValidateJob<'_>) -> Result<Finished, A
     }
 }
 
-/// A participant claims and finishes its jobs, one after another. After want of memory a job may be left claimed.
+/// A participant claims and finishes its jobs, one after another, until none can be claimed. The responses wait in its outbox then. After want of memory
+/// a job may be left claimed.
 pub fn validate_all<'r>(
     alloc: Global,
     natives: &'r NativeList,

@@ -42,7 +42,7 @@ fn new_nodes<'r>(alloc: Global, setup: &'r Setup) -> Result<NodeList<'r>, AllocE
 }
 
 impl<'r> World<'r> {
-    /// The world of these parts.
+    /// The synchroniser of these parts; `nodes` stand in the order of the topology.
     pub fn of(
         sequencer: Sequencer<'r>,
         mediator: Mediator,
@@ -59,8 +59,8 @@ impl<'r> World<'r> {
         }
     }
 
-    /// A synchroniser with an empty log in `row`, a participant for each host, and nothing read. `capacity` is how many entries
-    /// its requests may need in all.
+    /// A synchroniser for the topology and packages of `setup`: with an empty log in `row`, a participant for each host, and nothing read. `capacity` is
+    /// how many places of the log its requests may need in all.
     pub fn new(
         alloc: Global,
         setup: &'r Setup,
@@ -81,6 +81,7 @@ impl<'r> World<'r> {
         Ok(World::of(sequencer, mediator, nodes, 0))
     }
 
-    /// Gives its memory back. Whoever lets a world go so proves nothing of how the many types in it are dropped.
+    /// Drops the synchroniser, so that its memory is given back. A caller that lets it go by this call needn't prove how the many types in it are
+    /// dropped.
     pub fn give_back(self) {}
 }

@@ -29,7 +29,8 @@ pub record IsRestarted (log : List Entry) (before after : NodeValue) : Type 0 wh
   pub unfinished : (after.state).unfinished ≡ []
   pub outbox : (after.state).outbox ≡ responses_from after.base (before.state).outbox
 
--- each of these participants has restarted, and each other is as it was
+-- Of all participants of a synchroniser, in order of the topology, before and after: each that is among `participants` has restarted at the end of
+-- the log, and each other is as it was.
 pub record AreRestarted (participants : List ParticipantId) (log : List Entry) (before after : List NodeValue) : Type 0 where
   pub many : length after ≡ length before
   pub each : (p : ParticipantId) (x y : NodeValue) → slice_get before p ≡ Some x → slice_get after p ≡ Some y → has_place participants p ≡ true
@@ -42,14 +43,16 @@ pub record AreRestarted (participants : List ParticipantId) (log : List Entry) (
 abbrev pub bases_after : Reading → Params → List Entry → List ParticipantId → Bases → Bases
 bases_after reading params log participants bases p = if has_place participants p then Base.base params (inbox reading p log) else bases p
 
--- `after` is still the participant of each machine that `before` was, and paused as that was.
+-- `after` is the same participant as `before`, beside the sequencer's log: that of the same machines, with the same topology and packages, and paused
+-- or not as before. It may have read more, or have restarted.
 pub record StaysParticipant (sequencer : Sequenced) (before after : NodeValue) : Type 0 where
   pub topology : after.topology ≡ before.topology
   pub packages : after.packages ≡ before.packages
   pub paused : (after.state).is_paused ≡ (before.state).is_paused
   pub is : (m : Machine) (p : ParticipantId) → IsParticipant m p before sequencer → IsParticipant m p after sequencer
 
--- Each of these participants is still the one that it was, as `StaysParticipant` says.
+-- Of all participants of a synchroniser, in order of the topology, before and after: each is the same as before, with the same topology and packages,
+-- and paused or not as before. It may have read more, or have restarted.
 pub record AllStay (sequencer : Sequenced) (before after : List NodeValue) : Type 0 where
   pub many : length after ≡ length before
   pub each : (p : ParticipantId) (x y : NodeValue) → slice_get before p ≡ Some x → slice_get after p ≡ Some y → StaysParticipant sequencer x y

@@ -42,6 +42,7 @@ fn restart_one<'r>(
     Ok(())
 }
 
+// Each of `participants` among these nodes, which stand in the order of the topology, reads to the end of the log, and restarts.
 fn restart_slice<'r>(
     alloc: Global,
     setup: &'r Setup,
@@ -68,7 +69,7 @@ fn restart_slice<'r>(
     Ok(())
 }
 
-// The same of a list.
+// Each of `participants` among the nodes of this list reads to the end of the log, and restarts.
 fn restart_nodes<'r>(
     alloc: Global,
     setup: &'r Setup,
@@ -88,9 +89,8 @@ fn restart_nodes<'r>(
     restart_slice(alloc, setup, nodes.as_mut_slice(), sequencer, participants)
 }
 
-/// Each of these participants, paused or not, reads to the end of the log and is replaced by the one that begins from the bytes of its state,
-/// pruned to the base of its inbox. One that is named more than once restarts once. After want of memory some have restarted, and some have
-/// read some of the log.
+/// Each of these participants, paused or not, reads to the end of the log and is replaced by the one that begins from the bytes of its state, pruned to
+/// the base of its inbox. One that is named more than once restarts once. After want of memory some have restarted, and some have read some of the log.
 pub fn restart<'r>(
     alloc: Global,
     setup: &'r Setup,

@@ -32,14 +32,14 @@ impl<T> Turn<T> {
         }
     }
 
-    /// The number of its lane, from 0.
+    /// The number of the turn's lane, from 0.
     pub fn lane(&self) -> u32
         ensures { result ≡ self.now.lane }
     {
         self.lane
     }
 
-    /// Its number among its lane's turns, from 0.
+    /// The turn's number among the turns of its lane, from 0.
     pub fn number(&self) -> u64
         ensures { result ≡ self.now.number }
     {

@@ -24,7 +24,7 @@ use node_state::{Item, ItemList, NodeState, ResponseList};
 use std::alloc::{AllocError, Global};
 
 impl<'s> Node<'s> {
-    /// What it keeps, as a state apart from it. Envelopes aren't copied.
+    /// What it keeps, as a state apart from it. Envelopes are shared and not copied.
     pub fn state(&self, alloc: Global) -> Result<NodeState, AllocError>
         ensures { IfOk result (λ state. IsStateOf self.now state) }
     {
@@ -35,7 +35,7 @@ impl<'s> Node<'s> {
         Ok(self.state_with(beginning, items, outbox, done))
     }
 
-    /// Its state, pruned to the base of its inbox: what it would be, had it forgotten all that it read below that but what that leaves there.
+    /// Its state, pruned to the base of its inbox, as if it had forgotten all that it read below that and kept what the inbox leaves there.
     pub fn pruned_state(&self, alloc: Global) -> Result<NodeState, AllocError>
         ensures base { IfOk result (λ state. state.base ≡ Base.base (params_of self.now) (items_of self.now)) }
         ensures start { IfOk result (λ state. GoesOn (reading_of self.now) (items_of self.now) state.base self.now.start (start_in state)) }
@@ -213,8 +213,8 @@ impl<'s> Node<'s> {
         Ok(())
     }
 
-    /// The participant that begins again from a state: the same to every question but `base` and `state` as the one of which that is the
-    /// state, if it put back what it hasn't finished (`restarted_participants_are_pruned`).
+    /// The participant that begins again from a state. It answers every question but `base` and `state` as the one whose state it is would after
+    /// putting back what that hasn't finished (`restarted_participants_are_pruned`).
     pub fn from_state(
         alloc: Global,
         setup: &'s Setup,

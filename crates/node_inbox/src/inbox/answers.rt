@@ -44,7 +44,7 @@ use std::alloc::{AllocError, Global};
 use validate_job::ValidateJob;
 
 impl<'s> Inbox<'s> {
-    /// Where it begins, and what was left there, apart from it.
+    /// A copy of what it began with: its base, the time of the entry before that, and what was left there.
     pub fn beginning(&self, alloc: Global) -> Result<Beginning, AllocError>
         ensures base { IfOk result (λ beginning. beginning.base ≡ self.now.base) }
         ensures base_time { IfOk result (λ beginning. beginning.base_time ≡ self.now.base_time) }
@@ -56,7 +56,7 @@ impl<'s> Inbox<'s> {
         Beginning::with_copies(alloc, self.base, self.base_time, active, start.gone())
     }
 
-    /// What an inbox that forgets all that it read below a place begins with. Goes through the places below that.
+    /// What an inbox would begin with that forgets all that this one read below a place and goes on as this one. Goes through the places below that.
     pub fn beginning_at(&self, alloc: Global, place: u64) -> Result<Beginning, AllocError>
         requires { place ≤ length self.now.items }
         ensures base { IfOk result (λ beginning. beginning.base ≡ place) }
@@ -75,7 +75,7 @@ impl<'s> Inbox<'s> {
         })
     }
 
-    /// What it read from its base on, apart from it. Envelopes aren't copied.
+    /// The items that it read from its base on, as a state has them. Envelopes aren't copied.
     pub fn items(&self, alloc: Global) -> Result<ItemList, AllocError>
         ensures items { IfOk result (λ items. map (item_by self.now.topology) items ≡ drop self.now.base self.now.items) }
         ensures came { IfOk result (λ items. AreCame self.now.topology self.now.packages self.now.me self.now.base self.now.items items) }
@@ -84,7 +84,7 @@ impl<'s> Inbox<'s> {
         Ok(items)
     }
 
-    /// The same from a place on.
+    /// The items that it read from a place on, as a state has them. Envelopes aren't copied.
     pub fn items_from(&self, alloc: Global, place: u64) -> Result<ItemList, AllocError>
         requires { place ≤ length self.now.items }
         ensures items { IfOk result (λ items. map (item_by self.now.topology) items ≡ drop place self.now.items) }
@@ -94,7 +94,7 @@ impl<'s> Inbox<'s> {
         Ok(items)
     }
 
-    /// How many entries stand before the first request received that isn't decided at the cursor.
+    /// The clean place: the place of the first request received that isn't decided at the cursor, and the cursor where there is none.
     pub fn clean(&self) -> u64
         ensures { result ≡ clean (params_of self.now) self.now.items }
     {
@@ -119,8 +119,8 @@ impl<'s> Inbox<'s> {
         self.registry.outcome(place)
     }
 
-    /// The decision of the verdict on the request at a place. Goes through what was read from that place up to the verdict, and
-    /// through nothing where none came on a request that was received.
+    /// The decision of the verdict on the request at a place, and none where no request was received there or no verdict came on it. Goes through
+    /// what was read from that place up to the verdict, and through nothing where none came on a request that was received.
     pub fn decision(&self, place: u64) -> Option<&Decision>
         ensures { option_copied result ≡ verdict_on place (moments self.now.items) }
     {
@@ -138,7 +138,8 @@ impl<'s> Inbox<'s> {
         is_decided(self.outcome(place))
     }
 
-    /// Whether the participant confirms a view of the request at a place, decided or not.
+    /// Whether the participant confirms a view of the request at a place, and so owes verdicts to it, be it decided or not. It is false where none
+    /// was received there.
     pub fn owes(&self, place: u64) -> bool
         ensures { result ≡ owes_at (reading_of self.now) self.now.me self.now.items place }
     {
@@ -148,7 +149,7 @@ impl<'s> Inbox<'s> {
         }
     }
 
-    /// What the participant knows of contracts at the cursor, with what requests hold that aren't decided there.
+    /// What the participant knows of contracts at the cursor: a row for each, and which are held by requests that aren't decided there.
     pub fn store(&self) -> &Store
         ensures rows { result.now.rows ≡ written (changes_since (reading_of self.now) self.now.start self.now.items) [] }
         ensures holds { result.now.holds ≡ holding (pending_changes (reading_of self.now) (params_of self.now) self.now.items) }
@@ -172,9 +173,8 @@ impl<'s> Inbox<'s> {
         }
     }
 
-    /// The active contracts with a hosted stakeholder at a place, in order of creation, by all that was read. Up to the clean place
-    /// they are the ledger's. Goes through the places below the one that is asked for, from those on that are kept, and not
-    /// through items above it.
+    /// The active contracts with a hosted stakeholder at a place, in order of creation, by all that was read. Up to the clean place they are the
+    /// ledger's. Goes through the places below that one, or, where the inbox keeps those of an earlier place, through the places since alone.
     pub fn active_at(&self, alloc: Global, place: u64) -> Result<ActiveRowList, AllocError>
         ensures { IfOk result (λ rows. rows ≡ active_kept (reading_of self.now) self.now.me self.now.start self.now.items place) }
     {
@@ -224,15 +224,15 @@ impl<'s> Inbox<'s> {
         })
     }
 
-    /// The first place at which a request was decided, and the cursor where it isn't. Goes through what was read from the request's
-    /// place on.
+    /// The first place at which the request at `place` is decided, and the cursor where it is undecided. Goes through what was read from the
+    /// request's place on.
     pub fn decided_since(&self, place: u64) -> u64
         ensures { result ≡ decided_since (params_of self.now) self.now.items place }
     {
         decided_since(&self.setup.topology.params, &self.items, place)
     }
 
-    /// The check that the participant owes to the request at a place, by what it had read when it had read that.
+    /// The check that the participant owes to the request at a place, by what it knew when it had read that entry.
     pub fn job(&self, alloc: Global, place: u64) -> Result<ValidateJob<'s>, AllocError>
         requires { owes_at (reading_of self.now) self.now.me self.now.items place ≡ true }
         ensures place { IfOk result (λ job. job.given.place ≡ place) }
@@ -244,7 +244,7 @@ impl<'s> Inbox<'s> {
         job(alloc, self.setup, self.me, &self.items, place)
     }
 
-    /// The approved requests before the clean place, as they are opened.
+    /// The commits of the approved requests below the clean place, as they are opened, without those of which nothing is.
     pub fn applied(&self, alloc: Global) -> Result<CommitList, AllocError>
         ensures { IfOk result (λ commits. commits ≡ node_log (params_of self.now) self.now.items) }
     {
@@ -258,7 +258,8 @@ impl<'s> Inbox<'s> {
         )
     }
 
-    /// What `applied` answers, out of the inbox itself. What nobody else looks at isn't copied.
+    /// The commits of the approved requests below the clean place, as they are opened, without those of which nothing is. They are made of the inbox
+    /// itself: actions that nobody else looks at are moved and not copied.
     pub fn into_applied(self) -> Result<CommitList, AllocError>
         ensures { IfOk result (λ commits. commits ≡ node_log (params_of self.entry) self.entry.items) }
     {
@@ -272,7 +273,8 @@ impl<'s> Inbox<'s> {
         into_applied(setup, items, &registry, end)
     }
 
-    /// The places of the approved requests before the clean place of which the participant sees a view and has no complete envelope.
+    /// The places that are withheld from the participant, ascending: approved requests below the clean place of which it sees a view and has no
+    /// complete envelope.
     pub fn withheld(&self) -> Result<U64List, AllocError>
         ensures { IfOk result (λ places. places ≡ withheld (params_of self.now) self.now.items) }
     {
@@ -286,7 +288,7 @@ impl<'s> Inbox<'s> {
         )
     }
 
-    /// What it kept, when nobody asks it any more.
+    /// What the inbox kept, when nobody asks it any more.
     pub fn into_remains(self) -> InboxRemains {
         let Inbox {
             items,
@@ -299,7 +301,8 @@ impl<'s> Inbox<'s> {
         InboxRemains::new(items, registry, hosted, approved, active)
     }
 
-    /// The active contracts with a hosted stakeholder at the clean place, in order of creation. Goes on from those that are kept.
+    /// The active contracts with a hosted stakeholder at the clean place, in order of creation. Goes through the places below that one, or, where the
+    /// inbox keeps those of an earlier place, through the places since alone.
     pub fn active(&self, alloc: Global) -> Result<ActiveRowList, AllocError>
         ensures { IfOk result (λ rows. rows
             ≡ active_kept (reading_of self.now) self.now.me self.now.start self.now.items (clean (params_of self.now) self.now.items)) }

@@ -39,7 +39,8 @@ impl<'s> Inbox<'s> {
         Some(later_of(since, later))
     }
 
-    // The same of any place. Where no request was received there, nothing has to be decided.
+    // From where on the request at a place is decided, if one was received there, and others are, too, which are decided from `since` on; none where
+    // it is undecided at the cursor. Where no request was received there, nothing has to be decided.
     fn since_with(&self, place: u64, since: u64) -> Option<u64>
         requires { since ≤ length self.now.items }
         ensures { MatchOption result (is_settled_at (params_of self.now) self.now.items (length self.now.items) place ≡ false)
@@ -52,7 +53,8 @@ impl<'s> Inbox<'s> {
         }
     }
 
-    /// The greatest place below which every request that was received is decided at it. Goes through what was read from the base on.
+    /// The base to which the inbox may be pruned: the greatest place below which every request that was received is decided at it. Goes through what
+    /// was read from the present base on.
     pub fn next_base(&self) -> u64
         ensures { result ≡ Base.base (params_of self.now) self.now.items }
     {

@@ -24,28 +24,35 @@ use Rattle.ledger_terms.specs.declared.list.ListOf.TheView.{view, invariant}
 use Rattle.ledger_terms.specs.contracts.list.ListOf as Seen
 use Rattle.ledger_terms.specs.contracts.list.ListOf.TheInside as Kept
 
+-- A former is the kit's word for a type over another one, as a list over its items. This is what contracts see of a list of items that are of such a
+-- type themselves: a list of what they see of these.
 abbrev pub the_former : Former {0} → Former {0}
 the_former item = list item
 
+-- how large such a list counts where a type holds itself through it, so that what recurs over it is seen to end: as its largest item
 abbrev pub the_weighed : {item : Former {0}} → Weighed item → Weighed (the_former item)
 the_weighed = w_list
 
+-- the list without items, which is a value of the type even where nothing is of the items' type
 abbrev pub the_empty : List ⊥
 the_empty = []
 
+-- the items that a value of the type holds, which are the list itself
 abbrev pub the_items : (Item : Type 0) → List Item → List Item
 the_items Item items = items
 
 pub the_items_listed : (Item : Type 0) (items : List Item) → listed _ (children (the_former this) Item items) ≡ the_items Item items
 the_items_listed = list-listed
 
--- the one field, and the struct round it
+-- the vector in the one field of a `ListOf`
 abbrev vector_in : (Item : Type 0) → Inside Item → Vec Item Global
 vector_in Item kept = kept.items
 
+-- a `ListOf` with this vector in its one field
 abbrev kept_in : (Item : Type 0) → Vec Item Global → Inside Item
 kept_in Item items = record { items = items }
 
+-- what the one field of a `ListOf` holds, as a former: what its vector does
 abbrev the_fields : Former {0}
 the_fields = via (vector.the_former this Global) Inside vector_in kept_in (λ Item kept. refl) (λ Item items. refl)
 
