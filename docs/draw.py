@@ -12,21 +12,38 @@ import re
 import sys
 
 ROOT = os.path.dirname(os.path.dirname(os.path.abspath(__file__)))
-KINDS = {
-    'crates/*/src/**/*.rt': re.compile(r'\s*pub (?:const |unsafe )*fn (\w+)'),
-    'crates/*/specs/**/*.antt': re.compile(r'(?:(?:abbrev|unfoldable) (?:pub )?|(?:pub )?(?:record|data) )(\S+)'),
-}
+FUNCTION = re.compile(r'\s*pub (?:const |unsafe )*fn (\w+)')
+DEFINITION = re.compile(r'\s*(?:(?:abbrev|unfoldable) (?!mutual$)(?:pub )?|(?:pub )?(?:record|data) (?!{))(\S+)')
+MUTUAL = re.compile(r'(?:abbrev|unfoldable) mutual$')
+MEMBER = re.compile(r'  pub (\S+) :')
+
+
+def functions(lines):
+    """The public functions of a file of src/, each with the number of its line."""
+    for number, line in enumerate(lines, 1):
+        found = FUNCTION.match(line)
+        if found:
+            yield number, found.group(1)
+
+
+def definitions(lines):
+    """The definitions of a file of specs/, those that name each other among them."""
+    is_mutual = False
+    for number, line in enumerate(lines, 1):
+        if line.strip() and not line.startswith(' '):
+            is_mutual = MUTUAL.match(line.rstrip())
+        found = DEFINITION.match(line.rstrip('\n')) or (is_mutual and MEMBER.match(line))
+        if found:
+            yield number, found.group(1)
 
 
 def items():
     """All that may be drawn: a path, the number of a line, and a name."""
-    for pattern, begin in KINDS.items():
-        for path in sorted(glob.glob(os.path.join(ROOT, pattern), recursive=True)):
+    for pattern, found_in in (('src/**/*.rt', functions), ('specs/**/*.antt', definitions)):
+        for path in sorted(glob.glob(os.path.join(ROOT, 'crates/*', pattern), recursive=True)):
             with open(path, encoding='utf-8') as file:
-                for number, line in enumerate(file, 1):
-                    found = begin.match(line)
-                    if found:
-                        yield os.path.relpath(path, ROOT), number, found.group(1)
+                for number, name in found_in(file):
+                    yield os.path.relpath(path, ROOT), number, name
 
 
 def main():
