@@ -19,7 +19,7 @@ first_byte (byte ∷ rest) = byte
 abbrev pub bucket : List (List ℕ) → ℕ → List (List ℕ)
 bucket ids b = filter (λ id. nat_eq (first_byte id) b) ids
 
--- an id has 32 bytes
+-- an id has 32 bytes, of which the first is below 256
 pub record IsId (id : List ℕ) : Type 0 where
   pub long : length id ≡ 32
   pub first : first_byte id < 256
@@ -84,7 +84,7 @@ first_where test start (suc count) = if test start then Some start else first_wh
 unfoldable pub first_difference : (mine theirs : List (List ℕ)) → Option ℕ
 first_difference mine theirs = if bytes_eq (root_of mine) (root_of theirs) then None else first_where (is_other_bucket mine theirs) 0 256
 
--- The bucket b is the first at which two sets differ in its hash, and so in its ids.
+-- Two sets have different roots, and b is the first byte whose buckets' hashes differ in them; so these buckets' ids differ.
 pub record FirstDiffers (mine theirs : List (List ℕ)) (b : ℕ) : Type 0 where
   pub within : b < 256
   pub roots : root_of mine ≢ root_of theirs

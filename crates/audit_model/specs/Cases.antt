@@ -48,7 +48,8 @@ IsTooLate params before (VerdictMessage verdict) time = decision_time_of params 
 IsTooLate params before (RequestMessage request) time = ⊥
 IsTooLate params before Tick time = ⊥
 
--- the message is a response with other verdicts than those that its sender owes by the log `before`
+-- the message is a response with other verdicts than those that its sender owes to the request by what it had read of the log `before` up to the
+-- request's entry
 abbrev pub IsOtherCheck : Reading → Params → (before : List Entry) → Message → Type 0
 IsOtherCheck reading params before (ResponseMessage response) =
     response.verdicts ≢ verdicts_owed reading params response.from (inbox reading response.from (take (suc response.request) before)) response.request
@@ -56,7 +57,7 @@ IsOtherCheck reading params before (VerdictMessage verdict) = ⊥
 IsOtherCheck reading params before (RequestMessage request) = ⊥
 IsOtherCheck reading params before Tick = ⊥
 
--- the message is a verdict other than the mediator's decision on the log `before`, which may be none
+-- the message is a verdict with another decision than the mediator's over the log `before`, or the mediator makes none over that log
 abbrev pub IsOtherDecision : Params → (before : List Entry) → Message → Type 0
 IsOtherDecision params before (VerdictMessage verdict) = scan params before verdict.request ≢ Some verdict.decision
 IsOtherDecision params before (ResponseMessage response) = ⊥

@@ -42,7 +42,7 @@ abbrev pub exercised_for : Rule → Option Transaction → Option Hash
 exercised_for rule None = None
 exercised_for rule (Some transaction) = if_true (is_just rule.party transaction.requesters) (exercised_in transaction.roots)
 
--- whether the id is there and that of the contract
+-- whether there is an id (first argument) and it is that of the contract (second argument)
 abbrev pub is_contract : Option Hash → Hash → Bool
 is_contract None contract = false
 is_contract (Some id) contract = bytes_eq contract id

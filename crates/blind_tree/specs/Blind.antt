@@ -22,19 +22,21 @@ use Rattle.blind_tree.specs.declared.tree.Tree.{Tree}
 use Rattle.blind_tree.specs.declared.recipient.Recipient.{Recipient}
 use Rattle.blind_tree.specs.declared.recipient.Recipient.TheVariants.{Participant, Mediator}
 
--- the salt of a leaf of a kind, made from a seed
+-- The salt of a leaf of a kind (1 common, 2 requesters, 3 informees, 4 contents), made from a seed.
 abbrev pub salt_of : Hashing → (kind : ℕ) (seed : List ℕ) → List ℕ
 salt_of sha kind seed = sha (leaf_salt_string kind seed)
 
--- the hash of a leaf of a kind with these bytes, whose salt is made from this seed
+-- The hash of a leaf of a kind (1 common, 2 requesters, 3 informees, 4 contents) with these bytes, whose salt is made from this seed.
 abbrev pub digest_of : Hashing → (kind : ℕ) (seed bytes : List ℕ) → List ℕ
 digest_of sha kind seed bytes = sha (leaf_hash_string kind (salt_of sha kind seed) bytes)
 
--- a leaf of a kind with this salt and these bytes: with both of them where it is shown, else with its hash alone
+-- A leaf of a kind (1 common, 2 requesters, 3 informees, 4 contents) with this salt and these bytes: with both of them where it is shown, else with its
+-- hash alone.
 abbrev pub leaf_with : Hashing → (shows : Bool) (kind : ℕ) (salt bytes : List ℕ) → Leaf
 leaf_with sha shows kind salt bytes = if shows then Plain salt bytes else Blind (sha (leaf_hash_string kind salt bytes))
 
--- a leaf of a kind with these bytes, whose salt is made from this seed: with salt and bytes where it is shown, else with its hash alone
+-- A leaf of a kind (1 common, 2 requesters, 3 informees, 4 contents) with these bytes, whose salt is made from this seed: with salt and bytes where it
+-- is shown, else with its hash alone.
 abbrev pub leaf_of : Hashing → (shows : Bool) (kind : ℕ) (seed bytes : List ℕ) → Leaf
 leaf_of sha shows kind seed bytes = leaf_with sha shows kind (salt_of sha kind seed) bytes
 
@@ -80,7 +82,7 @@ shows_core Passed = false
 shows_core Named = false
 shows_core Whole = true
 
--- the views without what is shown of each
+-- the views alone, without the marks of what is shown of each
 abbrev pub views_shown : Forest (Visibility × SplitView) → Forest SplitView
 views_shown = map_forest (λ (m : Visibility × SplitView). m.1)
 
@@ -130,7 +132,8 @@ pub record Salts : Type 0 where
   pub common : List ℕ
   pub requesters : List ℕ
 
--- A tree whose first two leaves have these salts. It shows of each view what that is marked with, and the requesters or not.
+-- A tree of a transaction, with these salts of its common and its requesters leaf. The common leaf is shown, the requesters where `shows_requesters`
+-- says so, and of each view what it is marked with.
 abbrev pub tree_with : Hashing → Salts → (sender : List ℕ) (shows_requesters : Bool) → Transaction → Forest (Visibility × SplitView) → Tree
 tree_with sha salts sender shows_requesters transaction marked =
     record {
@@ -139,7 +142,8 @@ tree_with sha salts sender shows_requesters transaction marked =
       views = vertices_shown sha marked;
     }
 
--- The tree for a participant that hosts these parties, of a transaction with these views. `sends` tells whether the participant is the sender.
+-- The tree for a participant that hosts these parties, of a transaction with these views. `sends` tells whether the participant is the sender; the
+-- sender and who sees a root view are shown the requesters.
 abbrev pub tree_to : Hashing → Salts → (sender : List ℕ) → Transaction → Forest SplitView → (hosts : List ℕ → Bool) (sends : Bool) → Tree
 tree_to sha salts sender transaction views hosts sends =
     tree_with sha salts sender (sees_root hosts views || sends) transaction (shown_to hosts false views)

@@ -48,7 +48,8 @@ AreSpellable (BlindVertex hash others) = AreSpellable others
 AreSpellable (InnerVertex informees contents subviews others) =
     IsSpellableLeaf informees × IsSpellableLeaf contents × (count subviews ≤ MOST_ACTIONS) × AreSpellable subviews × AreSpellable others
 
--- The one vertex has room in a spelling: its leaves have fewer than 2^32 bytes, and at most 64 vertices stand side by side below it and below each.
+-- The one vertex has room in a spelling: its leaves and those of all vertices below it have fewer than 2^32 bytes, and at most 64 vertices stand side
+-- by side below it and below each.
 abbrev pub IsSpellable : Vertex → Type 0
 IsSpellable (vertices.Blind hash) = Unit {0}
 IsSpellable (vertices.Inner informees contents subviews) =

@@ -21,7 +21,8 @@ use Rattle.blind_tree.specs.declared.tree.Tree.{Tree}
 use Rattle.blind_tree.specs.declared.recipient.Recipient.{Recipient}
 use Rattle.blind_tree.specs.declared.recipient.Recipient.TheVariants.{Participant, Mediator}
 
--- a leaf of a kind with these bytes, its salt, which is made from the seed, and its hash
+-- What is kept of a leaf of a kind (1 common, 2 requesters, 3 informees, 4 contents) with these bytes: its salt, which is made from the seed, its bytes
+-- and its hash.
 abbrev pub kept_leaf : Hashing → (kind : ℕ) (seed bytes : List ℕ) → KeptLeaf
 kept_leaf sha kind seed bytes = record { salt = salt_of sha kind seed; bytes = bytes; hash = digest_of sha kind seed bytes }
 

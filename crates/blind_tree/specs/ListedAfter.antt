@@ -9,8 +9,8 @@ use Rattle.blind_tree.specs.declared.vertex.Vertex.{Vertex}
 use Rattle.blind_tree.specs.declared.vertex.Vertex.TheVariants as vertices
 use Rattle.blind_tree.specs.declared.leaf.Leaf.{Leaf}
 
--- `so_far`, and behind it the topmost of these vertices that are listed, as `views_listed` reads them. The first vertex is number k below the path
--- `above`, and `listed` tells which paths are asked for. It is what a loop has at each turn.
+-- `so_far`, and behind it the topmost of these vertices whose paths are `listed`, each read with all below it. The first is number k below the path
+-- `above`. Err (Bad) where a listed one is blinded or can't be read, or one below it isn't listed. It is what a loop has at each turn.
 abbrev pub listed_after : (List ℕ → Bool) → List ℕ → ℕ → Vertices → List PlacedView → Result (List PlacedView) WireFault
 listed_after listed above k NoVertices so_far = Ok so_far
 listed_after listed above k (BlindVertex hash others) so_far =

@@ -18,15 +18,16 @@ abbrev pub vertex_read : Vertex → Result View WireFault
 vertex_read (vertices.Blind hash) = Err (Bad 0)
 vertex_read (vertices.Inner informees contents subviews) = view_read informees contents subviews
 
--- The views so far, and behind them those of these vertices with all below them. It is what a loop has at each turn.
+-- The views `so_far`, and behind them those of these vertices with all below them; Err (Bad) where one shows its hash alone or can't be read. It is
+-- what a loop has at each turn.
 abbrev pub views_after : Vertices → Forest SplitView → Result (Forest SplitView) WireFault
 views_after NoVertices so_far = Ok so_far
 views_after (BlindVertex hash others) so_far = Err (Bad 0)
 views_after (InnerVertex informees contents subviews others) so_far =
     with_read (view_read informees contents subviews) (λ view. views_after others (join so_far (tree_of view)))
 
--- The views so far, and behind them the topmost of these vertices that are opened, as `views_opened` reads them. The first vertex is number k below the
--- path `above`.
+-- The views `so_far`, and behind them the topmost of these vertices whose two leaves show their bytes, each read with all below it; Err (Bad) where one
+-- can't be read. The first vertex is number k below the path `above`.
 abbrev pub opened_after : List ℕ → ℕ → Vertices → List PlacedView → Result (List PlacedView) WireFault
 opened_after above k NoVertices so_far = Ok so_far
 opened_after above k (BlindVertex hash others) so_far = opened_after above (suc k) others so_far

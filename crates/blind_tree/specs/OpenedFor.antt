@@ -35,7 +35,7 @@ stands_at k (InnerVertex informees contents subviews others) [] = false
 stands_at k (InnerVertex informees contents subviews others) (step ∷ rest) =
     if nat_eq step k then (is_end rest || stands_at 0 subviews rest) else stands_at (suc k) others (step ∷ rest)
 
--- Whether all of these vertices and all below them are listed. The first of them is number k below the path `above`.
+-- Whether all of these vertices and all below them are listed; `listed` tells which paths are. The first of them is number k below the path `above`.
 abbrev pub are_listed : (List ℕ → Bool) → List ℕ → ℕ → Vertices → Bool
 are_listed listed above k NoVertices = true
 are_listed listed above k (BlindVertex hash others) = listed (above ++ k ∷ []) && are_listed listed above (suc k) others
@@ -50,8 +50,8 @@ answered b = Ok b
 abbrev pub missing : {A : Type 0} → Result A WireFault
 missing = Err (Bad 0)
 
--- The topmost of these vertices that are listed, each read with all below it, which has to be listed too. The first of them is number k below the path
--- `above`.
+-- The topmost of these vertices whose paths are `listed`, each read with all below it. The first of them is number k below the path `above`. Err (Bad)
+-- where a listed one is blinded or can't be read, or one below it isn't listed.
 abbrev pub views_listed : (List ℕ → Bool) → List ℕ → ℕ → Vertices → Result (List PlacedView) WireFault
 views_listed listed above k NoVertices = Ok []
 views_listed listed above k (BlindVertex hash others) =
@@ -65,7 +65,8 @@ views_listed listed above k (InnerVertex informees contents subviews others) =
     else with_read (views_listed listed (above ++ k ∷ []) 0 subviews) (λ first.
     with_read (views_listed listed above (suc k) others) (λ rest. Ok (first ++ rest)))
 
--- The requesters that their leaf shows, where they are asked for; None where they aren't.
+-- The requesters that their leaf shows, where they are asked for (true); None where they aren't. Err (Bad) where they are, and the leaf is blinded or
+-- can't be read.
 abbrev pub requesters_if : Bool → Leaf → Result (Option (List (List ℕ))) WireFault
 requesters_if false leaf = Ok None
 requesters_if true leaf = with_read (read_leaf set_at leaf) (λ (names : List (List ℕ)). Ok (Some names))
@@ -74,7 +75,8 @@ requesters_if true leaf = with_read (read_leaf set_at leaf) (λ (names : List (L
 abbrev pub opened_by : List ℕ × ℕ → Option (List (List ℕ)) → List PlacedView → OpenedTree
 opened_by head requesters views = record { sender = head.0; ledger_time = head.1; requesters = requesters; views = views }
 
--- What a tree opens of the views with these paths, and of the requesters where they are asked for; a fault where one of them isn't shown.
+-- What a tree opens of the views with these paths, and of the requesters where they are asked for. Err (Bad) where the common leaf, one of these views
+-- or the requesters asked for aren't shown or can't be read, or a view below one of them isn't listed.
 abbrev pub opened_of_views : (seen : List (List ℕ)) → (requesters : Bool) → Tree → Result OpenedTree WireFault
 opened_of_views seen requesters tree =
     if list_all (stands_at 0 tree.views) seen
@@ -94,7 +96,7 @@ of_tree root seen requesters (Err fault) = Mismatch
 of_tree root seen requesters (Ok tree) =
     if bytes_eq root (hash_of_root sha256 tree) then open_or_missing (opened_of_views seen requesters tree) else Mismatch
 
--- What an envelope's bytes open of the views with these paths, and of the requesters where they are asked for, where the bytes are a tree with this
--- root hash.
+-- What an envelope's bytes open of the views with these paths, and of the requesters where they are asked for. Mismatch: the bytes are no tree with
+-- this root hash. Missing: something that is asked for can't be read in it.
 abbrev pub opened_for_root : (root : List ℕ) (seen : List (List ℕ)) (requesters : Bool) (bytes : List ℕ) → OpenedFor
 opened_for_root root seen requesters bytes = of_tree root seen requesters (read_all tree_at bytes)

@@ -47,7 +47,8 @@ roles_at = both_at set_at set_at
 abbrev pub view_roles : List ℕ → List (List ℕ) × List (List ℕ) → ViewRoles
 view_roles path roles = record { path = path; informees = roles.0; confirmers = roles.1 }
 
--- The informees and confirmers of views side by side, the first of which is number k below a path, each before those below it.
+-- The informees and confirmers of these vertices' views, the first of which is number k below the path `above`, each before those below it. Err (Bad)
+-- where a vertex or its informees leaf is blinded or can't be read.
 abbrev pub roles_listed : List ℕ → ℕ → Vertices → Result (List ViewRoles) WireFault
 roles_listed above k NoVertices = Ok []
 roles_listed above k (BlindVertex hash others) = Err (Bad 0)
@@ -55,7 +56,8 @@ roles_listed above k (InnerVertex informees contents subviews others) =
     with_read (read_leaf roles_at informees) (λ roles. with_read (roles_listed (above ++ k ∷ []) 0 subviews) (λ below.
     with_read (roles_listed above (suc k) others) (λ rest. Ok (view_roles (above ++ k ∷ []) roles ∷ (below ++ rest)))))
 
--- What the mediator reads of a tree: its sender, and each view's informees and confirmers.
+-- What the mediator reads of a tree: its sender, and each view's informees and confirmers. Err (Bad) where the common leaf, a vertex or an informees
+-- leaf is blinded or can't be read.
 abbrev pub informee_tree_of : Tree → Result RolesTree WireFault
 informee_tree_of tree =
     with_read (read_leaf head_at tree.common) (λ head. with_read (roles_listed [] 0 tree.views) (λ views. Ok (record { sender = head.0; views = views })))
@@ -114,7 +116,8 @@ view_read informees contents subviews =
 abbrev pub placed : List ℕ → View → PlacedView
 placed path view = record { path = path; view = view }
 
--- The topmost vertices with two plain leaves, each read with all below it, where the first of these vertices is number k below a path.
+-- The topmost vertices whose two leaves show their bytes, each read with all below it; Err (Bad) where one can't be read. The first of these vertices
+-- is number k below the path `above`.
 abbrev pub views_opened : List ℕ → ℕ → Vertices → Result (List PlacedView) WireFault
 views_opened above k NoVertices = Ok []
 views_opened above k (BlindVertex hash others) = views_opened above (suc k) others
@@ -129,7 +132,8 @@ abbrev pub read_if_plain : {A : Type 0} → Reading A → Leaf → Result (Optio
 read_if_plain read (Blind hash) = Ok None
 read_if_plain read (Plain salt bytes) = with_read (read_all read bytes) (λ x. Ok (Some x))
 
--- What a participant reads of a tree: sender, ledger time, the requesters where they are shown, and the views that are opened.
+-- What a participant reads of a tree: sender, ledger time, the requesters where they are shown, and the topmost views whose two leaves are shown, with
+-- all below them. Err (Bad) where the common leaf is blinded or something shown can't be read.
 abbrev pub tree_opened : Tree → Result OpenedTree WireFault
 tree_opened tree =
     with_read (read_leaf head_at tree.common) (λ head. with_read (read_if_plain set_at tree.requesters) (λ requesters.

@@ -7,8 +7,9 @@ use Rattle.blind_tree.specs.Opening.{with_read, read_leaf, roles_at, view_roles}
 use Rattle.blind_tree.specs.declared.leaf.Leaf.{Leaf}
 use Rattle.blind_tree.specs.declared.view_roles.ViewRoles.{ViewRoles}
 
--- The informees and confirmers of the views of these vertices and of all views below them, in order of path, behind those so far. The first vertex has
--- index k below the view with the path `above`. What is blinded is a fault.
+-- The list so far, and behind it the informees and confirmers of the views of these vertices and of all views below them, in order of path. The first
+-- vertex has index k below the view with the path `above`. A vertex or an informees leaf that shows its hash alone is a fault; contents leaves aren't
+-- looked at.
 abbrev pub roles_after : List ℕ → ℕ → Vertices → List ViewRoles → Result (List ViewRoles) WireFault
 roles_after above k NoVertices so_far = Ok so_far
 roles_after above k (BlindVertex hash others) so_far = Err (Bad 0)
@@ -16,8 +17,9 @@ roles_after above k (InnerVertex informees contents subviews others) so_far =
     with_read (read_leaf roles_at informees) (λ roles.
     with_read (roles_after (above ++ k ∷ []) 0 subviews (so_far ++ view_roles (above ++ k ∷ []) roles ∷ [])) (λ more. roles_after above (suc k) others more))
 
--- What `roles_after` does with one view, number k below the path `above`, given by its informees leaf and the vertices below it: the list so far, and
--- behind it the roles of this view and of all below it.
+-- The list so far, and behind it the informees and confirmers of one view and of all views below it, in order of path. The view is number k below the
+-- path `above`, given by its informees leaf and the vertices below it. It is a fault where one of these vertices or their informees leaves can't be
+-- read.
 abbrev pub view_roles_after : List ℕ → ℕ → Leaf → Vertices → List ViewRoles → Result (List ViewRoles) WireFault
 view_roles_after above k informees subviews so_far =
     with_read (read_leaf roles_at informees) (λ roles. roles_after (above ++ k ∷ []) 0 subviews (so_far ++ view_roles (above ++ k ∷ []) roles ∷ []))

@@ -30,12 +30,13 @@ root_string sha tree = tree_hash_string (hash_of_leaf sha 1 tree.common) (hash_o
 abbrev pub hash_of_root : Hashing → Tree → List ℕ
 hash_of_root sha tree = sha (root_string sha tree)
 
--- the string that is hashed for a leaf; none where it shows its hash alone
+-- the string that is hashed for a leaf of a kind (1 common, 2 requesters, 3 informees, 4 contents), as a list of one; none where it shows its hash
+-- alone
 abbrev pub leaf_strings : ℕ → Leaf → List (List ℕ)
 leaf_strings kind (Blind hash) = []
 leaf_strings kind (Plain salt bytes) = leaf_hash_string kind salt bytes ∷ []
 
--- the strings that are hashed for the hashes of these vertices
+-- the strings that are hashed for the hashes of these vertices, of all below them and of their leaves
 abbrev pub vertex_strings : Hashing → Vertices → List (List ℕ)
 vertex_strings sha NoVertices = []
 vertex_strings sha (BlindVertex hash others) = vertex_strings sha others

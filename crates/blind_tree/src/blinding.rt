@@ -17,9 +17,9 @@ use ledger_terms::{Bytes, Exact, Name, Topology};
 use std::alloc::{AllocError, Global};
 use view_split::Views;
 
-/// The tree of a transaction for one recipient (Canton protocol: blinding). `sender` is the name of the participant that submits the transaction, and
-/// `to` says for whom the tree is. A participant sees a view where it hosts an informee of it or of a view above it; what it doesn't see is there as
-/// a hash alone. Err is want of memory.
+/// The tree of a transaction for the recipient `to` (Canton protocol: blinding). `sender` is the name of the participant that submits it. A participant
+/// is shown the views of which it hosts an informee, with all below them, and the mediator the informees and confirmers of all views; other views are
+/// there as hashes. Err is want of memory.
 pub fn blind(
     alloc: Global,
     views: &Views,
@@ -54,8 +54,8 @@ pub fn blind_all(
     Ok(trees)
 }
 
-/// The bytes of the tree that a recipient gets of a transaction, spelled straight from the transaction's tree that is kept with every hash. They are
-/// those of the tree that `blind` makes. `sender` is the name with which the tree was kept, and `to` says for whom the bytes are.
+/// The bytes of the tree that `blind` makes for the recipient `to`, spelled straight from the transaction's tree that is kept with every hash. `sender`
+/// is the name with which that was kept. Err is want of memory.
 pub fn spelled_for(
     alloc: Global,
     kept: &KeptTree,

@@ -17,9 +17,8 @@ use ledger_terms::{PartySet, Path};
 use std::alloc::{AllocError, Global};
 use wire_form::WireFault;
 
-/// The sender of a transaction, and the informees and confirmers of every view, as the mediator reads them in its tree. The common leaf is read
-/// first, and then the informees leaf of each vertex before those below it. Err names the first fault: a leaf that isn't plain or isn't one spelling
-/// of its kind, or a blind vertex. Its place is that in the leaf's bytes, and 0 where there are none.
+/// The sender of a transaction, and the informees and confirmers of every view, each before those below it, as the mediator reads them in its tree. Err
+/// is the first fault: a blind leaf or vertex, at place 0, or a leaf that can't be read, at the place in its bytes; or it is want of memory.
 pub fn informee_tree(alloc: Global, tree: &Tree) -> Result<RolesTree, WireFault>
     requires { IsNarrow tree.now.views }
     ensures { Follows WireFault.Memory result (informee_tree_of tree.now) }

@@ -62,13 +62,15 @@ pub fn leaves_have_one_spelling()
     ensures contents { HasOneSpelling spell_node IsNode core_at }
 {}
 
-/// Two trees of one root agree on every leaf that both show, or two different strings, one hashed in each, have one hash.
+/// Two trees of one root, whose hashes and salts have 32 bytes, agree on every leaf that both show, or two different strings, one hashed in each, have
+/// one hash.
 pub fn one_root_one_tree()
     ensures { (t u : Tree) → IsSized t → IsSized u → hash_of_root sha256 t ≡ hash_of_root sha256 u
         → AgreeTrees t u ⊎ Clash sha256 (tree_strings sha256 t) (tree_strings sha256 u) }
 {}
 
-/// All trees of one transaction have one root, also with other salts of the first two leaves than those of its seed.
+/// All trees of one transaction have one root, also with other salts of the first two leaves than those of its seed. With these, each hash and salt in
+/// them has 32 bytes.
 pub fn blinding_keeps_the_root()
     ensures root { (views : Views) (sender : List ℕ) (hosts : List Host) (to : Recipient)
         → hash_of_root sha256 (blind_for sha256 views sender hosts to) ≡ transaction_digest sha256 views sender }
@@ -99,7 +101,7 @@ pub fn recipients_are_the_sender_and_who_sees()
         → is_host_named hosts p name ≡ nat_eq p sender }
 {}
 
-/// Of vertices that show their views whole, all these views are read back.
+/// Of vertices that show their views whole, all these views are read back, where each is in range and has as many holes as views directly below it.
 pub fn views_shown_whole_are_read()
     ensures { (hosts : List ℕ → Bool) (views : Forest SplitView) → AreViews views → AreFilled views
         → views_read (vertices_shown sha256 (shown_to hosts true views)) ≡ Ok views }
@@ -111,13 +113,15 @@ pub fn opened_views_are_filled()
         → AreFilled (map_forest (λ (v : List ℕ × SplitView). v.1) (placed_forest opened.views)) }
 {}
 
-/// Every view of an opened tree can be encoded again, whatever bytes it was read from.
+/// Every view of an opened tree can be encoded again, whatever bytes it was read from, where at most 65,536 vertices stand side by side, as in each
+/// tree that can be read.
 pub fn opened_views_are_spellable()
     ensures { (tree : Tree) (opened : OpenedTree) → IsNarrow tree.views → tree_opened tree ≡ Ok opened
         → All (λ (placed : PlacedView). AreSpellableViews (tree_of placed.view)) opened.views }
 {}
 
-/// The instance of each action that an opened tree shows can be encoded, so that its contract's id can be made of it.
+/// The instance of each action that an opened tree shows can be encoded, so that its contract's id can be made of it, where at most 65,536 vertices
+/// stand side by side, as in each tree that can be read.
 pub fn opened_actions_are_spellable()
     ensures { (tree : Tree) (opened : OpenedTree) → IsNarrow tree.views → tree_opened tree ≡ Ok opened
         → All (λ (act : Act). IsSpellableInstance (instance_of act.action)) (acts (put_back (placed_forest opened.views))) }
@@ -137,8 +141,9 @@ pub fn blinded_trees_are_spellable()
         → IsSpellableTree (blind_for sha256 views sender hosts to) }
 {}
 
-/// What a participant's tree opens are the topmost views that it sees, with all below them, where each view has as many holes as views directly below
-/// it; and what the mediator's tree tells are the informees and confirmers of every view.
+/// Of a transaction in range whose views have as many holes as views directly below them, a participant's tree opens the topmost views that it sees,
+/// with all below them, and the requesters to the sender and to who sees a root view; the mediator's tree tells the informees and confirmers of every
+/// view, of any transaction in range.
 pub fn trees_open_what_is_seen()
     ensures participants { (views : Views) (sender : List ℕ) (hosts : List ℕ → Bool) (is_sender : Bool) → AreInRange sender views → AreFilled views.roots
         → tree_opened (blind_to sha256 views sender hosts is_sender)

@@ -21,11 +21,9 @@ use std::alloc::Global;
 use view_split::{CoreNode, OpenedTree, PlacedView, PlacedViewList, SplitView, View, ViewList};
 use wire_form::WireFault;
 
-/// What a participant reads in its tree: sender, ledger time, the requesters where they are shown, and the topmost views that are shown, with all
-/// below them. It reads the common leaf, the requesters leaf where that is plain, and then, from the left, each topmost vertex whose two leaves are
-/// plain, with every vertex below it: first its informees leaf, then its contents leaf. Err names the first fault: a leaf that isn't plain or isn't
-/// one spelling of its kind, a blind vertex below such a vertex, or a core that hasn't as many holes as its vertex has subviews. The place is that in
-/// the leaf's bytes, the number of those bytes where the holes differ, and 0 where there are no bytes.
+/// What a participant reads in its tree: sender, ledger time, the requesters where shown, and the topmost views whose two leaves are plain, with all
+/// below them. Err is the first fault: a common leaf or a vertex below such a view that is blind, a leaf that can't be read, or other than as many
+/// holes as subviews. Its place is that in the leaf's bytes, their end for the holes, and 0 where nothing is shown.
 pub fn opened(alloc: Global, tree: &BlindTree) -> Result<OpenedTree, WireFault>
     requires { IsNarrow tree.now.views }
     ensures { Follows WireFault.Memory result (tree_opened tree.now) }
@@ -131,8 +129,9 @@ fn view_with(informees: PartySet, confirmers: PartySet, core: CoreNode) -> Split
     }
 }
 
-/// The view that the two leaves of a vertex show. The vertices below it aren't read: it is only tried that there are as many of them as the view's
-/// core has holes. Err names the place of the first fault, as `opened` does for a whole tree.
+/// The view that the two leaves of a vertex show. Of the vertices below it, `subviews`, only the number is tried, which the core's holes have to have.
+/// Err is at place 0 of a blind leaf, at the place in a leaf's bytes that can't be read, or at the core's end where the numbers differ; or it is want
+/// of memory.
 pub fn own_view(
     alloc: Global,
     informees: &Leaf,

@@ -41,8 +41,8 @@ pub record SomeCore (reading : Reading) (p : ParticipantId) (request : Request) 
   pub in_core : Contains view.core action
   pub holds : P shown action
 
--- Whether an authentic action that is opened before this one, in the same request, creates its contract. The action stands behind its number among
--- all that is shown.
+-- Whether an authentic action that is opened before this one, in the same request, creates its contract. The action is given with its number among all
+-- that is shown.
 abbrev pub is_created_before : Reading → Shown → ℕ × Act → Bool
 is_created_before reading shown a =
     list_any (λ (b : Act). reading.is_authentic b && creates (id_of (a.1).action) b) (take a.0 (acts shown.roots))
@@ -69,8 +69,9 @@ LocalReasonHolds reading params log j p request path Unordered = Unit {0}
 LocalReasonHolds reading params log j p request path NotConformant = Unit {0}
 LocalReasonHolds reading params log j p request path NotAuthorised = Unit {0}
 
--- What such a rejection says of the ledger besides, where no hashes collide: for Inactive, that a contract that an action of the core uses isn't
--- active by the ledger, or something is withheld from p; for NotFresh, that one that it creates isn't unknown; else nothing.
+-- What participant p's rejection for this reason of the view with this path says of the ledger, where no hashes collide. For Inactive: an action of the
+-- core uses a contract that no authentic action before it creates, and that isn't active by the ledger, or something below j is withheld from p. For
+-- NotFresh: one creates a contract that isn't unknown by the ledger. For any other reason nothing.
 abbrev pub LedgerReasonHolds : Reading → List Entry → (j : ℕ) → ParticipantId → Request → Path → Reason → Type 0
 LedgerReasonHolds reading log j p request path Inactive =
     SomeCore reading p request path (λ shown a.
@@ -103,13 +104,15 @@ pub record RejectionStands (reading : Reading) (params : Params) (log : List Ent
   pub check : verdict_on_offer reading params p (inbox reading p (take (suc j) log)) j request.sender path (reading.offered p request)
       ≡ Reject reason action
 
--- The rejection stands, as `RejectionStands` has it, and what its reason says is so, whether hashes collide or not.
+-- Participant p's rejection of the view with this path of the request at place j is right, whether hashes collide or not: p's check gives the reason
+-- (`RejectionStands`), and what the reason says is so (`LocalReasonHolds`).
 pub record LocalRejectionHolds (reading : Reading) (params : Params) (log : List Entry) (j : ℕ) (p : ParticipantId) (path : Path) (reason : Reason)
     : Type 0 where
   pub stands : RejectionStands reading params log j p path reason
   pub holds : LocalReasonHolds reading params log j p stands.request path reason
 
--- The rejection holds as `LocalRejectionHolds` has it, and what its reason says of the ledger is so too.
+-- Participant p's rejection of the view with this path of the request at place j is right as `LocalRejectionHolds` has it, and what its reason says of
+-- the ledger is so too (`LedgerReasonHolds`).
 pub record RejectionHolds (reading : Reading) (params : Params) (log : List Entry) (j : ℕ) (p : ParticipantId) (path : Path) (reason : Reason) : Type 0 where
   pub locally : LocalRejectionHolds reading params log j p path reason
   pub holds : LedgerReasonHolds reading log j p (locally.stands).request path reason
@@ -139,7 +142,8 @@ LocalCauseOf reading params log j (Decided (TimedOut missing)) = TimeoutHolds pa
 LocalCauseOf reading params log j Expired = ExpiryHolds params log j
 LocalCauseOf reading params log j Undecided = Unit {0}
 
--- What this outcome of the request at place j says where no hashes collide: a rejection tells besides what the ledger says of its contract.
+-- What this outcome of the request at place j says where no hashes collide: what `LocalCauseOf` has, and of a rejection as Inactive or NotFresh also
+-- what it says of the contract's status by the ledger.
 abbrev pub CauseOf : Reading → Params → List Entry → (j : ℕ) → Outcome → Type 0
 CauseOf reading params log j (Decided Approved) = Unit {0}
 CauseOf reading params log j (Decided (Rejected from view reason)) = RejectionHolds reading params log j from view reason

@@ -1,4 +1,4 @@
--- The local checks of a participant on a view.
+-- The local checks of a participant on a view. Their numbers are those of docs/PROTOCOL.md.
 use Rattle.std.specs.Prelude.{ℕ, suc, ◌+◌, Bool, true, false, List, [], ◌∷◌, ◌++◌, Option, Some, None, take, filter, find, flat_map, map, length}
 use Rattle.std.specs.Prelude.{not, ◌&&◌, ◌||◌, if◌then◌else◌, slice_get, nat_eq, nat_le}
 use Rattle.std.specs.List.{list_any, list_all}
@@ -24,7 +24,7 @@ abbrev pub first_place : {X : Type 0} → (X → Bool) → List X → ℕ
 first_place test [] = 0
 first_place test (x ∷ xs) = if test x then 0 else suc (first_place test xs)
 
--- A reason, and the test by which an action of a core shows it. The action stands behind its number among all that is opened.
+-- A reason, and the test by which an action of a core shows it. The test takes the action with its number among all that is opened.
 pub record Check : Type 0 where
   pub reason : Reason
   pub is_shown_by : ℕ × Act → Bool
@@ -91,7 +91,7 @@ are_confirmed confirms (Some names) = list_all confirms names
 abbrev pub is_from : Reading → (sender : ParticipantId) → Shown → Bool
 is_from reading sender shown = reading.is_named sender shown.sender && are_confirmed (reading.confirms sender) shown.requesters
 
--- the two sets of parties are the same; both are in ascending order
+-- whether two sets of parties are the same, name by name; a set has its names in ascending order
 abbrev pub same_names : PartySet → PartySet → Bool
 same_names a b = pointwise bytes_eq a b
 
@@ -110,8 +110,9 @@ subview_starts shown view =
     flat_map (λ (other : OpenedView). first_act other.core)
     (filter (λ (other : OpenedView). is_directly_below view.path other.path) shown.views)
 
--- Whether a core with its numbers is split by the rules: its first action starts a view with these informees and confirmers, no other action of it
--- starts one, and each of `below`, the first actions of the views directly below, does. All of them have roles. False of [].
+-- Whether a core with its numbers is split by the rules: the informees are those of its first action, the confirmers those of all its actions, no
+-- action behind the first starts a view, and each of `below`, the first actions of the views directly below, does. All of them have roles. False of the
+-- empty core.
 abbrev pub is_split_core : Language → (informees confirmers : PartySet) → List (ℕ × Act) → (below : List Act) → Bool
 is_split_core language informees confirmers [] below = false
 is_split_core language informees confirmers (first ∷ rest) below =
@@ -121,7 +122,8 @@ is_split_core language informees confirmers (first ∷ rest) below =
     && (list_all (λ (a : ℕ × Act). not (starts (roles_of language) (its_informees (roles_of language) first.1) a.1)) rest
     && list_all (starts (roles_of language) (its_informees (roles_of language) first.1)) below)))
 
--- Check 13 is passed: the view is one that its actions make, and so begin the views directly below it.
+-- Check 13 is passed: the view's informees and confirmers are those of its core, and views start in it and directly below it just where the rules say
+-- (`is_split_core`).
 abbrev pub is_well_split : Reading → Shown → OpenedView → Bool
 is_well_split reading shown view = is_split_core reading.language view.informees view.confirmers view.core (subview_starts shown view)
 
@@ -140,8 +142,8 @@ checks reading params p time shown view status locked =
     ∷ record { reason = NotAuthorised; is_shown_by = λ a. not (is_authorised_in reading shown view a) }
     ∷ []
 
--- The local verdict of participant p on a view of a complete envelope, where `time` is that of the request's entry, and `status` and `locked` are
--- what p knows of contracts there. The checks 12 and 13 are tried before the nine.
+-- The local verdict of participant p on a view of a complete envelope, where `time` is that of the request's entry, and `status` and `locked` are what
+-- p knows of contracts there. Checks 12 (`is_from`) and 13 (`is_well_split`) are tried before the nine, and name action 0.
 abbrev pub verdict_by : Reading → Params → ParticipantId → (sender : ParticipantId) → (time : ℕ) → Shown → OpenedView → (status : Hash → Status)
     → (locked : Hash → Bool) → LocalVerdict
 verdict_by reading params p sender time shown view status locked =
@@ -149,8 +151,8 @@ verdict_by reading params p sender time shown view status locked =
     else if not (is_well_split reading shown view) then Reject WrongCommon 0
     else first_shown (checks reading params p time shown view status locked) view.core
 
--- The local verdict of participant p on a view that it is shown of the request at place k. It knows of contracts what the first k + 1 items of its
--- inbox say.
+-- The local verdict of participant p on a view that it is shown of the request at place k. What p knows of contracts there is what the first k + 1 of
+-- the items, its inbox, say.
 abbrev pub verdict_on_view : Reading → Params → ParticipantId → List Item → (k : ℕ) → (sender : ParticipantId) → Shown → OpenedView → LocalVerdict
 verdict_on_view reading params p items k sender shown view =
     verdict_by reading params p sender (item_time (slice_get items k)) shown view
@@ -166,8 +168,8 @@ abbrev pub verdict_on_found : Reading → Params → ParticipantId → List Item
 verdict_on_found reading params p items k sender shown None = Reject ViewMissing 0
 verdict_on_found reading params p items k sender shown (Some view) = verdict_on_view reading params p items k sender shown view
 
--- The local verdict of participant p on the view with this path of the request at place k, by what its envelope gives it. Where the envelope isn't
--- complete each view is rejected, by check 10 or 11.
+-- The local verdict of participant p on the view with this path of the request at place k, by what its envelope gives it. Where that is a Mismatch each
+-- view is rejected as RootMismatch, and where it is Missing as ViewMissing.
 abbrev pub verdict_on_offer : Reading → Params → ParticipantId → List Item → (k : ℕ) → (sender : ParticipantId) → Path → Offer → LocalVerdict
 verdict_on_offer reading params p items k sender path Mismatch = Reject RootMismatch 0
 verdict_on_offer reading params p items k sender path Missing = Reject ViewMissing 0

@@ -165,8 +165,8 @@ is_received (Received notice) = true
 is_received (Told verdict) = false
 is_received Nothing = false
 
--- The number of items in front of the first received request that isn't decided over the whole inbox. It goes through the items of the last
--- argument, the rest of the inbox `items` from place k on.
+-- How many items of the last argument stand before the first received request that isn't decided over the whole inbox `items`; all of them where there
+-- is none. The last argument is the rest of `items` from place k on.
 abbrev pub clean_from : Params → List Item → ℕ → List Item → ℕ
 clean_from params items k [] = 0
 clean_from params items k (item ∷ rest) =
@@ -205,7 +205,7 @@ abbrev pub is_kept_from : Option Notice → Bool
 is_kept_from None = false
 is_kept_from (Some notice) = is_some_path notice.seen && not (is_some (shown_in_offer notice.offer))
 
--- Place m is withheld, by what these items tell: its request is approved, and no complete envelope opens what the participant sees of it.
+-- Place m is withheld, by what these items tell: its request is approved, the participant sees a view of it, and the envelope to it isn't complete.
 abbrev pub is_withheld_in : List Item → ℕ → Bool
 is_withheld_in items m = is_approved_in m (moments items) && is_kept_from (notice_at items m)
 
@@ -270,7 +270,7 @@ abbrev pub node_active : Reading → ParticipantId → List Item → ℕ → Lis
 node_active reading p items n =
     filter (is_active_row reading p (authentic_below reading items n)) (first_of_each (created_below reading items n))
 
--- the rows of all contracts that the commits of a ledger create, in order, whoever is shown the commits
+-- the rows of all Creates of these commits, in order, authentic or not; a contract that is created twice has two rows
 abbrev pub created_by : List Commit → List ActiveRow
 created_by commits = flat_map (λ (commit : Commit). created_at_place commit.place (acts commit.roots)) commits
 

@@ -92,14 +92,15 @@ is_transferred call (Create id instance) =
 is_transferred call (Exercise id salt instance choice args actors consuming result) = false
 is_transferred call (Fetch id salt instance actors) = false
 
--- whether the forest of consequences and the result are what the transfer's body makes: one such Create, and unit
+-- whether the consequences and the result are what the transfer's body makes: one Create, that of the contract that it creates (`is_transferred`), and
+-- unit
 abbrev pub follows_body : ChoiceCall → (result : Value) → Forest Act → Bool
 follows_body call result NoRoots = false
 follows_body call result (Root act NoRoots NoRoots) = is_transferred call act.action && value_eq.ghosts.eq UnitValue result
 follows_body call result (Root act (Root child below next) others) = false
 follows_body call result (Root act NoRoots (Root other below next)) = false
 
--- nothing stands in the forest
+-- whether the forest of an action's consequences is empty
 abbrev pub is_alone : Forest Act → Bool
 is_alone NoRoots = true
 is_alone (Root act below others) = false
@@ -120,7 +121,7 @@ conforms (Root act consequences others) = is_followed act.action consequences &&
 abbrev pub create : (seed : ℕ) → Instance → Act
 create seed instance = record { seed = seed ∷ []; action = Create (9 ∷ seed ∷ []) instance }
 
--- Alice's transfer to Carol of the contract of seed 1, without its consequences, whose own seed is 100 and the number
+-- Alice's transfer to Carol of the contract of seed 1, without its consequences; the seed of the transfer itself is 100 + `seed`
 abbrev pub transfer_act : (seed : ℕ) → Act
 transfer_act seed =
     record {
@@ -144,7 +145,7 @@ of_alice roots = record { requesters = alice ∷ []; ledger_time = 0; roots = ro
 abbrev pub issue : Transaction
 issue = record { requesters = bank ∷ []; ledger_time = 0; roots = Root (create 1 (contract bank alice)) NoRoots NoRoots }
 
--- a Create of a contract of Alice's own, at this ledger time
+-- the transaction of one Create of a contract of Alice's own, at this ledger time
 abbrev pub alone_at : (ledger_time : ℕ) → Transaction
 alone_at ledger_time = record { requesters = alice ∷ []; ledger_time = ledger_time; roots = Root (create 5 (contract alice alice)) NoRoots NoRoots }
 
@@ -156,10 +157,9 @@ foreign = record { template = record { «package» = 88 ∷ []; name = [] }; fie
 abbrev pub unsigned : Instance
 unsigned = record { template = record { «package» = []; name = [] }; fields = [] }
 
--- The transaction of each number, which its request has as its command: 1 the issue, 2 and 3 two transfers, 4 a fetch, 5 a create of Alice's own, 6
--- a forged and 7 an invented fetch, 8 a transfer and a fetch, 9 a create that Bank didn't ask for, 11 and 12 creates ahead of time, 13 a create of a
--- package that nobody vetted, 14 a transfer that creates nothing, 20 to 28 transfers that are tampered with, the last to Alice herself, 29 a
--- transfer that creates a contract without a signatory, and 10 and any other number two creates.
+-- The transaction of each number (its request's command): 1 the issue, 4 a fetch, 5 a create, 6 a forged and 7 an invented fetch, 8 a transfer and a
+-- fetch, 9 a create that Bank didn't ask for, 11 and 12 creates ahead of time, 13 one of an unvetted package, 14 a transfer that creates nothing, 28
+-- one that creates Alice a contract, 29 one that creates an unsigned one, 2, 3 and others above 19 transfers to Carol, any other two creates.
 abbrev pub transaction_of : ℕ → Transaction
 transaction_of n =
     if nat_eq n 1 then issue
@@ -212,7 +212,7 @@ is_that this q =
     nat_eq q.sender this.sender
     && (bytes_eq q.command this.command && (bytes_eq q.confirming this.confirming && (is_empty q.mediator && is_empty q.envelopes)))
 
--- Whether the request is framed: true just of the three requests of the two spends, and of one that is kept from Carol's participant.
+-- Whether the request is framed: true just of the three requests of the log `two_spends`, and of the one that is kept from Carol's participant (24).
 abbrev pub is_framed : Request → Bool
 is_framed q = is_that (request_for 0 1) q || (is_that (request_for 1 2) q || (is_that (request_for 1 3) q || is_that (request_for 1 24) q))
 
@@ -252,7 +252,7 @@ abbrev pub parted : Forest Outlined → Forest Outlined
 parted NoRoots = NoRoots
 parted (Root view below others) = Root view (Root (record { informees = view.informees; confirmers = bank ∷ [] }) NoRoots NoRoots) NoRoots
 
--- the outline that is told of request n, of its true views with their paths, as far as informees and confirmers are concerned
+-- the true views of request n, given with their paths, as an outline with the informees and confirmers that the mediator is told of each
 abbrev pub outlined : (n : ℕ) → Forest (Path × View) → Forest Outlined
 outlined n NoRoots = NoRoots
 outlined n (Root view below others) =
@@ -304,7 +304,7 @@ parted_views (view ∷ more) =
 abbrev pub said_views : (n : ℕ) → List OpenedView → List OpenedView
 said_views n views = if nat_eq n 27 then merged_views views else if nat_eq n 28 then parted_views views else map (said_view n) views
 
--- what an envelope of request n shows, where `shown` is what is true: with requesters and views that aren't so
+-- what an envelope of request n shows, where `shown` is what is true: the requesters and the views are those that the request claims
 abbrev pub misstated : (n : ℕ) → Shown → Shown
 misstated n shown =
     record {
@@ -375,15 +375,15 @@ tick time = record { time = time; message = Tick }
 abbrev pub on : List ℕ → LocalVerdict → ViewVerdict
 on path v = record { view = path; verdict = v }
 
--- the verdict on the view 0
+-- the verdict v on the view 0, as a response has it
 abbrev pub v0 : LocalVerdict → ViewVerdict
 v0 v = on (0 ∷ []) v
 
--- the verdict on the view 0.0
+-- the verdict v on the view 0.0, as a response has it
 abbrev pub v00 : LocalVerdict → ViewVerdict
 v00 v = on (0 ∷ 0 ∷ []) v
 
--- the verdict on the view 1
+-- the verdict v on the view 1, as a response has it
 abbrev pub v1 : LocalVerdict → ViewVerdict
 v1 v = on (1 ∷ []) v
 
@@ -437,7 +437,7 @@ early_tick = after_b (request 4 1 2 ∷ response 5 1 3 (v0 Approve ∷ []) ∷ t
 abbrev pub past_decision_time : List Entry
 past_decision_time = request 1 1 5 ∷ response 2 1 0 (v0 Approve ∷ []) ∷ tick 60000001 ∷ tick 60000002 ∷ []
 
--- The log in which a later request is decided and an earlier one isn't, so that the clean place of Alice's participant stays before that.
+-- The log in which the request at place 4 is decided and the one at place 3 isn't, so that the clean place of Alice's participant is 3.
 abbrev pub clean_behind : List Entry
 clean_behind =
     after_b (
@@ -469,8 +469,8 @@ late time = tick time ∷ request (time + 1) 1 5 ∷ []
 abbrev pub missing_at_bank : List Entry
 missing_at_bank = after_b (request 4 1 20 ∷ response 5 0 3 (v0 (Reject ViewMissing 0) ∷ v00 (Reject ViewMissing 0) ∷ []) ∷ [])
 
--- The log of a transfer that has no envelope to Carol's participant and is approved all the same, since that confirms nothing. Place 3 is withheld
--- from it.
+-- The log of a transfer that has no envelope to Carol's participant and is approved all the same, since that one confirms no view of it. Place 3 is
+-- withheld from it.
 abbrev pub kept_from_carol : List Entry
 kept_from_carol =
     after_b (

@@ -31,7 +31,8 @@ ghost use Rattle.ledger_model.specs.Status.{is_locked_by, status_after};
 ghost use Rattle.canton_model.specs.Evidence.{IsShownApprovedChanges, past_at, pending_at};
 ghost use Rattle.canton_model.specs.Evidence.{status_at, Requests, Opened, Final, Checked, ledger_below};
 
-/// The approved requests below a place `end`, in order, are a consistent ledger, whatever requests are, where the three premises hold.
+/// The approved requests below a place `end`, in order, are a consistent ledger, whatever form requests have, where the three premises of
+/// `Evidence.antt` hold: `Opened`, `Final` and `Checked`.
 pub fn one_ledger()
     ensures consistent { (r : Requests) (end : ℕ)
         → Opened r end
@@ -48,8 +49,8 @@ pub fn decided_is_final()
         → Final (requests_of reading params log confirms_signatory_of) (length log) }
 {}
 
-/// The approved requests of a log with its times and verdicts in order are a consistent ledger, where the two other premises of `one_ledger` hold of
-/// its requests.
+/// The approved requests of a log with its times and verdicts in order are a consistent ledger, where the premises `Opened` and `Checked` of
+/// `one_ledger` hold of its requests.
 pub fn one_ledger_of_log()
     ensures { (reading : Reading) (params : Params) (log : List Entry) (confirms_signatory_of : ParticipantId → Hash → Bool)
         → Timely params log
@@ -59,7 +60,7 @@ pub fn one_ledger_of_log()
 {}
 
 /// A participant p that is shown every change of contract c by approved requests below place k, and doesn't count c as locked there, gives it the
-/// ledger's status at k.
+/// ledger's status at k, where the premises `Final` and `Checked` hold up to an `end` behind k.
 pub fn status_is_shared()
     ensures { (r : Requests) (end p k : ℕ) (c : Hash)
         → k < end
@@ -70,8 +71,8 @@ pub fn status_is_shared()
         → status_after (past_at r p k) c ≡ status_at r k c }
 {}
 
-/// The log of participant p up to its clean place, when it has read n entries, is the projection to its hosted parties of the ledger without the
-/// places that are withheld from it.
+/// In a genuine log without collisions the log of participant p up to its clean place, when it has read n entries, is the projection to its hosted
+/// parties of the ledger without the places that are withheld from it.
 pub fn node_log_is_projection()
     ensures { (reading : Reading) (params : Params) (log : List Entry) (p : ParticipantId) (n : ℕ)
         → IsReading reading
@@ -83,7 +84,7 @@ pub fn node_log_is_projection()
         (without_places (is_withheld reading log p) (commits_below reading log (clean params (inbox reading p (take n log))))) }
 {}
 
-/// Below its clean place a participant p that has read n entries knows of each place k whether it is withheld from it.
+/// In a genuine log a participant p that has read n entries knows of each place k below its clean place whether it is withheld from it.
 pub fn what_is_withheld_is_known()
     ensures { (reading : Reading) (params : Params) (log : List Entry) (p : ParticipantId) (n k : ℕ)
         → Genuine reading params log
@@ -101,7 +102,7 @@ pub fn one_ledger_of_genuine_log()
         → Consistent (ledger_acts (ledger reading log)) }
 {}
 
-/// The approved request at place k has a whole, which conforms and is authorised, where no hashes collide.
+/// In a genuine log without collisions the approved request at place k has a whole, which conforms and is authorised.
 pub fn approved_conform_and_are_authorised()
     ensures whole { (reading : Reading) (params : Params) (log : List Entry) (k : ℕ) (request : Request)
         → IsReading reading
@@ -126,7 +127,7 @@ pub fn approved_conform_and_are_authorised()
         → is_commit_authorised (roles_of reading.language) commit ≡ true }
 {}
 
-/// Each view of the approved request at place k was found, by somebody that confirms it, to be from the sender and well split.
+/// In a genuine log each view of the approved request at place k was found, by somebody that confirms it, to be from the sender and well split.
 pub fn approved_requests_are_vouched_for()
     ensures { (reading : Reading) (params : Params) (log : List Entry) (k : ℕ) (request : Request) (path : Path)
         → IsReading reading
@@ -137,8 +138,8 @@ pub fn approved_requests_are_vouched_for()
         → IsVouched reading request path }
 {}
 
-/// The active contracts of participant p, which has read n entries, at each place m up to its clean one are those with a hosted stakeholder that the
-/// ledger's commits below m, taken whole and without the places that are withheld from p, create and don't consume.
+/// In a genuine log without collisions the active contracts of participant p, which has read n entries, at each place m up to its clean one are those
+/// with a hosted stakeholder that the ledger's commits below m, taken whole and without the places that are withheld from p, create and don't consume.
 pub fn active_sets_are_exact()
     ensures { (reading : Reading) (params : Params) (log : List Entry) (p : ParticipantId) (n m : ℕ)
         → IsReading reading
@@ -150,8 +151,8 @@ pub fn active_sets_are_exact()
         ≡ active_of reading p (without_places (is_withheld reading log p) (commits_below reading log m)) }
 {}
 
-/// Two participants p and q know the same contracts of which each of them hosts a stakeholder, at each place m up to both of their clean places and
-/// below which nothing is withheld from either, however far each has read (n and o entries).
+/// In a genuine log without collisions two participants p and q know the same contracts of which each hosts a stakeholder, however far each has read (n
+/// and o entries), at each place m up to both of their clean places and below which nothing is withheld from either.
 pub fn shared_contracts_agree()
     ensures { (reading : Reading) (params : Params) (log : List Entry) (p q : ParticipantId) (n o m : ℕ)
         → IsReading reading
@@ -167,7 +168,8 @@ pub fn shared_contracts_agree()
         ≡ shared_with reading p (node_active reading q (inbox reading q (take o log)) m) }
 {}
 
-/// The premises of `one_ledger_of_genuine_log` can be met, and the definitions compute.
+/// A log of one create (`Example.antt`) meets the premises of `one_ledger_of_genuine_log`, so that these can be met; its ledger, clean place and active
+/// contracts are computed.
 pub fn example()
     ensures reading { IsReading Example.reading }
     ensures distinct { NoCollision Example.reading Example.log }
@@ -178,8 +180,8 @@ pub fn example()
     ensures unsettled { clean Example.params (inbox Example.reading 0 (take 2 Example.log)) ≡ 0 }
 {}
 
-/// What a rejection, a timeout or an expiry of the request at place j says is so, whether hashes collide or not: the check of the participant that
-/// rejects gives the reason that is told, and a contract that is said to be locked is locked.
+/// In a genuine log what a rejection, a timeout or an expiry of the request at place j says is so, whether hashes collide or not: the check of the
+/// participant that rejects gives the reason that is told, and a contract that is said to be locked is locked.
 pub fn each_outcome_has_its_cause()
     ensures { (reading : Reading) (params : Params) (log : List Entry) (j : ℕ)
         → IsReading reading
@@ -187,7 +189,8 @@ pub fn each_outcome_has_its_cause()
         → LocalCauseOf reading params log j (outcome_of (timeline_of log) j (decision_time_of params log j)) }
 {}
 
-/// Where no hashes collide, a rejection of the request at place j for a contract's status tells besides what the ledger says of the contract.
+/// In a genuine log without collisions a rejection of the request at place j as Inactive or NotFresh says besides what is so of the contract's status
+/// by the ledger, or, as Inactive, something is withheld from the participant that rejects.
 pub fn each_rejection_holds_of_the_ledger()
     ensures { (reading : Reading) (params : Params) (log : List Entry) (j : ℕ)
         → IsReading reading
@@ -196,7 +199,7 @@ pub fn each_rejection_holds_of_the_ledger()
         → CauseOf reading params log j (outcome_of (timeline_of log) j (decision_time_of params log j)) }
 {}
 
-/// A contract c that participant p counts as locked at place k is locked there: some undecided request creates or consumes it.
+/// In a genuine log a contract c that participant p counts as locked at place k is locked there: some undecided request creates or consumes it.
 pub fn what_counts_as_locked_is_locked()
     ensures { (reading : Reading) (params : Params) (log : List Entry) (p k : ℕ) (c : Hash)
         → Genuine reading params log
@@ -204,9 +207,9 @@ pub fn what_counts_as_locked_is_locked()
         → IsLockedIn reading params log k c }
 {}
 
-/// A participant p that doesn't count a contract as locked at place k gives it the ledger's status there, where it confirms a signatory of it, or
-/// hosts a stakeholder of it and nothing below k is withheld from it. The contract is that of action a, which is authentic and is opened to anybody
-/// (q) by a complete envelope, at any place (j).
+/// In a genuine log without collisions a participant p that doesn't count a contract as locked at place k gives it the ledger's status there, where it
+/// confirms a signatory of it, or hosts a stakeholder of it and nothing below k is withheld from it. The contract is that of an authentic action a that
+/// a complete envelope opens to anybody (q) at any place (j).
 pub fn participants_agree_with_the_ledger()
     ensures confirming { (reading : Reading) (params : Params) (log : List Entry) (p q j k : ℕ) (a : Act)
         → IsReading reading
@@ -231,7 +234,7 @@ pub fn participants_agree_with_the_ledger()
         → status_in_inbox reading (inbox reading p (take (suc k) log)) k (id_of a.action) ≡ status_in reading log k (id_of a.action) }
 {}
 
-/// The clean place of an inbox is the greatest place below which every request received is decided.
+/// The clean place of an inbox is the greatest place, of those up to its length, below which every request received is decided over all its items.
 pub fn clean_is_greatest()
     ensures clean { (params : Params) (items : List Item) → IsClean params items (Inbox.clean params items) }
     ensures greatest { (params : Params) (items : List Item) (n : ℕ) → IsClean params items n → n ≤ Inbox.clean params items }
@@ -263,7 +266,7 @@ pub fn later_items_change_nothing()
         → verdicts_owed reading params p (take (suc k) items) k ≡ verdicts_owed reading params p items k }
 {}
 
-/// A recipient p of the request at place k learns by its inbox whether and how the request was decided.
+/// In a log with its times and verdicts in order a recipient p of the request at place k learns by its inbox whether and how the request was decided.
 pub fn recipients_learn_outcomes()
     ensures decided { (reading : Reading) (params : Params) (p : ParticipantId) (log : List Entry) (k : ℕ) (request : Request)
         → Timely params log
@@ -278,7 +281,7 @@ pub fn recipients_learn_outcomes()
         → outcome_in params (inbox reading p log) k ≡ outcome_of (timeline_of log) k (decision_time_of params log k) }
 {}
 
-/// A genuine log without collisions meets the premises `Opened` and `Checked` on which one ledger rests.
+/// A genuine log without collisions meets the premises `Opened` and `Checked` of the law `one_ledger`.
 pub fn genuine_logs_are_evidence()
     ensures opened { (reading : Reading) (params : Params) (log : List Entry)
         → IsReading reading
@@ -292,8 +295,8 @@ pub fn genuine_logs_are_evidence()
         → Checked (requests_of reading params log (is_guard reading log)) (length log) }
 {}
 
-/// A complete envelope opens to its recipient p each view that p confirms, by the view's path, so that a view is found missing only where an
-/// envelope is.
+/// A complete envelope of a framed request opens to its recipient p each view that p confirms, by the view's path. So a view is rejected as ViewMissing
+/// only where the envelope is missing or isn't complete.
 pub fn complete_envelopes_open_what_is_confirmed()
     ensures { (reading : Reading) (request : Request) (p : ParticipantId) (shown : Shown) (path : Path)
         → FramedFacts reading request
@@ -309,13 +312,14 @@ pub fn framed_requests_ask_somebody()
         → (p : ParticipantId) × Contains request.confirming p }
 {}
 
-/// An inbox grows by one item with each entry.
+/// With each entry that a log grows by, an inbox of it grows by one item: what its participant learns of the entry.
 pub fn inbox_grows()
     ensures { (reading : Reading) (p : ParticipantId) (log : List Entry) (entry : Entry)
         → inbox reading p (log ++ entry ∷ []) ≡ inbox reading p log ++ item_after reading p log entry ∷ [] }
 {}
 
-/// The decisions and clean places of worked examples: each clause computes one of a log of `Worked.antt`, which describes the log.
+/// The decisions, clean places, withheld places and participants' logs of worked examples: each clause computes one of a log of `Worked.antt`, which
+/// describes the log.
 pub fn worked_decisions()
     ensures first_spend { scan Worked.params two_spends 3 ≡ Some Approved }
     ensures second_spend { scan Worked.params two_spends 4 ≡ Some (Rejected 0 (0 ∷ []) Locked) }
@@ -332,8 +336,8 @@ pub fn worked_decisions()
     ensures clean_behind_ledger { length (node_log Worked.params (inbox Worked.reading 1 clean_behind)) ≡ 1 }
 {}
 
-/// The log of two spends, by three participants, meets the premises of the other laws, and so does one that keeps a place from a
-/// participant.
+/// The logs `two_spends` and `kept_from_carol` of `Worked.antt`, of three participants, meet the premises of the other laws: their reading is one, they
+/// are genuine, and no hashes collide in them.
 pub fn worked_log_is_genuine()
     ensures reading { IsReading Worked.reading }
     ensures distinct { NoCollision Worked.reading two_spends }
@@ -370,8 +374,8 @@ pub fn worked_checks()
     ensures foreign_root_alice { verdicts_owed Worked.reading Worked.params 1 (inbox Worked.reading 1 (alone 10)) 0 ≡ v0 Approve ∷ [] }
 {}
 
-/// Verdicts that participants owe to the requests of senders that leave an envelope out, send another tree, or tell of a request what isn't so; each
-/// clause computes those of one participant, 0 for Bank's, 1 for Alice's and 2 for Carol's.
+/// Verdicts that participants owe to the requests of senders that leave an envelope out, send another tree, or tell of a request what isn't so. Each
+/// clause computes those of one participant, 0 for Bank's, 1 for Alice's and 2 for Carol's; `other_informees_recipients` the recipients of request 23.
 pub fn worked_checks_of_tampered_requests()
     ensures no_envelope_bank { verdicts_owed Worked.reading Worked.params 0 (inbox Worked.reading 0 (asked 20)) 3
         ≡ v0 (Reject ViewMissing 0) ∷ v00 (Reject ViewMissing 0) ∷ [] }

@@ -23,7 +23,7 @@ use Rattle.canton_run.specs.Restarts.{base_in, pruned_in}
 use Rattle.canton_run.specs.Run.{params_of, reading_for}
 
 -- The source, which had left' left after `left`, gave these bytes and was read to its end, and they are at most `most`. Of a source that doesn't tell
--- what it has left nothing is said.
+-- what it has left only the limit is said.
 abbrev pub ReadWhole : (most : ℕ) → Option (List ℕ) → Option (List ℕ) → List ℕ → Type 0
 ReadWhole most left left' bytes = Consumes left left' bytes × IsAtEnd left' × (length bytes ≤ most)
 
@@ -47,7 +47,7 @@ needs_script (Commitments workers log) = true
 needs_script (Dump workers log) = true
 needs_script Audit = false
 
--- how many bytes the job takes from the source at most; `Gen` takes none
+-- how many bytes the job may take from the source at most; `Gen` takes none, and has the limit of scripts here
 abbrev pub most_bytes : Job → ℕ
 most_bytes (Run workers log) = MOST_SCRIPT_BYTES
 most_bytes (Gen count seed workers) = MOST_SCRIPT_BYTES
@@ -94,8 +94,8 @@ text_over Audit bytes script entries results views known caused = []
 abbrev pub views_in : Script → List Entry → (ends : List ℕ) → List NodeView
 views_in script log ends = views_over (reading_for script) (params_of script) log (pruned_in script log ends) (length (script.topology).hosts)
 
--- what each participant knows of active contracts over the whole log, beside its base; `ends` has the lengths of the log at the ends of the parts of
--- rounds
+-- What each participant, in the order of the topology, knows of active contracts when it has read the whole log: its base after the run, its clean
+-- place, and the contracts active at each place. `ends` has the lengths of the log at the ends of the parts of rounds, from which the bases follow.
 abbrev pub knowledge_in : Script → List Entry → (ends : List ℕ) → List Knowledge
 knowledge_in script log ends = each_knowledge (reading_for script) (params_of script) log (base_in script log ends) (length (script.topology).hosts)
 
@@ -104,6 +104,6 @@ abbrev pub told_text : Job → (bytes : List ℕ) → Script → List Entry → 
 told_text job bytes script log results ends caused =
     text_over job bytes script log results (views_in script log ends) (knowledge_in script log ends) caused
 
--- what the job writes of a run of the script with these bytes that ended so
+-- what the job writes of a run of the script with these bytes, whose log, results, ends and caused submissions `finish` has
 abbrev pub text_of : Job → (bytes : List ℕ) → Script → Finish → List ℕ
 text_of job bytes script finish = told_text job bytes script finish.log finish.results finish.ends finish.caused

@@ -5,7 +5,8 @@ use Rattle.script_read.specs.declared.script_fault.ScriptFault.{ScriptFault}
 use Rattle.script_read.specs.declared.script_fault.ScriptFault.TheVariants.{NotJson, Shape, NotInteger, Unknown, Package, Limit, Repeated, Memory}
 use Rattle.script_read.specs.Faults.{fault_name}
 
--- Why a run ended with this status, in words. Of 0 and 3 it says nothing that is written: at 0 there is no line, and at 3 the script's fault is told.
+-- Why a run ended with this status, in words, and `unknown status` of one that isn't named here. Neither 0 nor 3 is named: at 0 no line is written, and
+-- at 3 the script's fault is told.
 abbrev pub why_text : ℕ → List ℕ
 why_text status =
     if status == 2 then codes "usage"

@@ -24,10 +24,9 @@ use trigger_rules::{Answering, Rules};
 use world_play::World;
 use world_play::laws::sent_requests_open_by_the_rules;
 
-/// Plays the rounds of a script over a new synchroniser with its log in `row`, whose requests may need as many places of the log in all as the plan
-/// says. Once a round has settled its rules are asked, and what they cause is handed in and settles. A choice that `natives` has is asked of them in
-/// place of the language by the thread that plays the rounds, and by no worker. In the end every participant, paused or not, reads the whole log. An
-/// Err is want of memory.
+/// Plays the rounds of a script over a new synchroniser with its log in `row`; `plan` has its capacity. The rules are asked in each round once its
+/// first part has settled. The thread that plays the rounds, and no worker, asks `natives` for a choice that they have, in place of the language. In
+/// the end every participant, paused or not, reads the whole log. An Err is want of memory.
 pub fn run_script<
     'r,
     R: Threads + Wait + Sync + RandomSource + AllocGlobal,

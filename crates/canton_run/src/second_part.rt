@@ -39,8 +39,8 @@ use trigger_loop::fire_each;
 use trigger_rules::{Answering, CausedList, Rules};
 use world_play::{World, begin_round, settle};
 
-/// Asks the rules, one after another, in the round with the number `number`: its participants are paused once more, and all others read to the end of the
-/// log first. The result is what the rules cause, which isn't handed in yet. After want of memory some rules may count as fired.
+/// Asks the rules, one after another, in the round with the number `number`. First just the participants that `round` pauses are paused, and all others
+/// read to the end of the log. The result is what the rules cause, which isn't handed in yet. After want of memory some rules may count as fired.
 pub fn ask_rules<A: Answering>(
     alloc: Global,
     world: &mut World<'_>,

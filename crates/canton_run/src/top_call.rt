@@ -194,12 +194,9 @@ fn run_generated<
     }
 }
 
-/// Does what the words ask for: reads a script from the source, runs it and writes the report, the commitments or a dump to the sink; runs a generated
-/// script and writes the summary; or reads a dump and writes what an audit says of it. The result has the status, and the record of what was run.
-/// Memory comes from the allocator of the words. With workers each round's submissions come from clients in threads of their own, beside so many lanes,
-/// which pass the gate before each view that they check; without, one thread does all the work and passes no gate. That thread asks `natives` for a
-/// choice that they have, in place of the language; lanes and clients ask the language. `rule` is given the name of a rule of the script and an active
-/// contract, and answers the command that the rule submits, or None where it doesn't fire.
+/// Does the job that `words` ask for, from `source` to `sink`, and gives the status with the record of what was run; memory comes from the words'
+/// allocator. Without workers one thread does all the work and passes no gate. The thread that plays the rounds, and no worker, asks `natives`. `rule`
+/// is given a rule's name and an active contract, and answers the command that the rule submits, or None where it doesn't fire.
 pub fn run<
     R: Threads + Wait + Sync + RandomSource + AllocGlobal,
     G: Gate + Sync,

@@ -19,7 +19,8 @@ AreUtf8 (word ∷ words) = (is_utf8 word ≡ true) × AreUtf8 words
 
 -- ---- one word
 
--- What a word looks like: `--`; `--name` or `--name=text`; another word with a hyphen before something; and any other word, a lone hyphen among them.
+-- What a word looks like: `ending` is `--`; `option` is `--name` or `--name=text`, with the name, and with the text or None; `flag` is a word with one
+-- hyphen before something; and `plain` is any other word, a lone hyphen among them.
 pub data Form : Type 0 where
   ending : Form
   option : Text → Option Text → Form
@@ -27,7 +28,7 @@ pub data Form : Type 0 where
   plain : Form
 
 -- The form of a word other than `--`, by what `clap` finds behind two hyphens, a name with a text or without one, and by what it finds behind one
--- hyphen. None is nothing.
+-- hyphen. Each is None where it finds nothing.
 abbrev pub form_behind : Option (Text × Option Text) → Option Text → Form
 form_behind (Some named) short = option named.0 named.1
 form_behind None (Some letters) = flag
@@ -61,7 +62,8 @@ abbrev pub with_option : List Argument → Text → Text → (List Argument → 
 with_option given name text after =
     if is_option name && not (is_given name given) then after (given ++ (name, text) ∷ []) else None
 
--- What `after` makes of the arguments with this text as the first positional that is left, and of the others left; None where none is.
+-- What `after` makes of the arguments `given` with this text as that of the first positional in the list of those to come, and of the others to come;
+-- None where no positional is to come.
 abbrev pub with_positional : List Argument → List Text → Text → (List Argument → List Text → Option (List Argument))
     → Option (List Argument)
 with_positional given [] text after = None
@@ -69,8 +71,8 @@ with_positional given (name ∷ left) text after = after (given ++ (name, text) 
 
 -- ---- all words
 
--- The arguments `given` with those of the words after `--`, each of which is a positional, as `left` names those to come; None where there are too
--- many.
+-- The arguments `given` with those of the words after `--`, each of which is the text of the next positional; `left` names the positionals to come.
+-- None where there are more words than these.
 abbrev pub positionals_from : List Argument → List Text → List Text → Option (List Argument)
 positionals_from given left [] = Some given
 positionals_from given left (word ∷ words) =

@@ -35,15 +35,15 @@ abbrev pub words_app : App
 words_app =
     app_with (option_rule (codes "workers") ∷ option_rule (codes "log") ∷ positional_rule (codes "count") ∷ positional_rule (codes "seed") ∷ [])
 
--- what `clap` finds wrong with the words; nothing where it takes them
+-- the kinds of error that `clap` may give at the words; none, an empty list, where it takes them
 unfoldable pub words_fault : List Text → Kinds
 words_fault words = fault_of words_app words
 
--- what each argument was given by the words, as `clap` has it, a row for each
+-- what `clap` reads the words as: a row for each argument that they give, with its text
 unfoldable pub words_rows : List Text → List Row
 words_rows words = matches_of words_app words
 
--- the texts of the arguments that `clap` has found
+-- the texts of the arguments that `clap` has found, None for one that isn't given
 abbrev pub matches_given : ArgMatches → Given
 matches_given m =
     record {

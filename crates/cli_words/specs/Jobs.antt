@@ -72,7 +72,8 @@ given_in given =
 unfoldable pub given_of : List Text → Option Given
 given_of words = option_map given_in (arguments_of words)
 
--- The options of a job on the source's script, with their defaults; None where an argument is at fault.
+-- The options of a job on the source's script; left out, they are 0 workers and a log of MOST_PLACES. None where the text of one writes no number
+-- within its limits, or a count or a seed is given.
 unfoldable pub options_of : Given → Option RunOptions
 options_of given = do
   _ ← absent given.count

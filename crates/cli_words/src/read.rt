@@ -24,12 +24,9 @@ fn texts_of(alloc: Global, words: &[Text]) -> Result<Vec<&str>, AllocError>
     Ok(texts)
 }
 
-/// The job that the words ask for: `run [--workers N] [--log N]`, `commitments [--workers N] [--log N]`, `dump [--workers N] [--log N]`,
-/// `audit`, or `gen COUNT SEED [--workers N]`.
-///
-/// The first word is the command. Options and positionals stand behind it in any order; an option stands once at most, and its
-/// number is the next word or is joined to it by `=`. Behind `--` no word is an option. Words that aren't of this form, or have a number outside
-/// its limits, are Usage.
+/// The job that the words ask for: `run`, `commitments` or `dump` with `[--workers N] [--log N]`, `audit`, or `gen COUNT SEED [--workers N]`. Options
+/// stand anywhere behind the command, each once at most, its number joined by `=` or as the next word; behind `--` no word is an option. All else, and
+/// a number outside its limits, is Usage.
 #[tactic(auto, unfolding(crate::specs::Jobs::job_of))]
 pub fn read_words(alloc: Global, words: &WordList) -> Result<Job, WordsFault>
     ensures job { IfOk result (λ job. job_of words.now ≡ Some job) }

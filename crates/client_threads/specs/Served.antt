@@ -14,8 +14,8 @@ use Rattle.world_play.specs.Results.{IsPlainResult, results_of}
 use Rattle.sync_shared.specs.Clients.{Seen}
 
 -- What participant p's client, which had seen the entries `first` when it began, has come back with: a result for each submission among `submits` that
--- is its participant's, in order, and each result is right by what the client had seen. `now` and `paused` are the round's time and who is paused in
--- it.
+-- is its participant's, in order, each right by what the client had seen. `now` is the round's time, `paused` are those paused in it, and `why` tells
+-- why a submission wants no request.
 pub record IsServed (m : Machine) (why : Why SubmitFault) (now : ℕ) (paused : List ParticipantId) (first : List Entry) (submits : List Submission)
     (p : ParticipantId) (client : Seen) (results : List SubmitResult) : Type 0 where
   -- the client is that of participant p

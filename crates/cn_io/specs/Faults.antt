@@ -5,7 +5,7 @@ use Rattle.std.specs.Prelude.{ℕ, ◌+◌, ◌-◌, ◌^◌, ◌≤◌, min}
 abbrev pub greatest : ℕ
 greatest = 2 ^ 64 - 1
 
--- the count n and one more, which stands still at the greatest u64
+-- one more than the count n, but at most the greatest u64, at which the count stands still
 abbrev pub counted : ℕ → ℕ
 counted n = min (n + 1) greatest
 

@@ -29,7 +29,7 @@ pub record Roomy : Type 0 where
   pub room : ℕ
   pub faults : ℕ
 
--- whether the number of a call is among those of some calls
+-- whether the number of a call, the first argument, is among these numbers of calls
 abbrev pub is_listed : ℕ → List ℕ → Bool
 is_listed call calls = list_any (λ c. c == call) calls
 

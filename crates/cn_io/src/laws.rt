@@ -5,7 +5,8 @@ ghost use Rattle.cn_io.specs.declared.failed.Failed.{Failed};
 
 use crate::sink::Sink;
 
-/// Where each put that takes bytes takes all that it is offered, a text that was written whole, and isn't empty, was written by one put.
+/// Suppose each `put` of a sink that takes bytes takes all that it is offered. Then bytes that were written whole (`OffersAll` with an Ok), at least
+/// one, were written by a single `put`.
 pub fn whole_puts_are_one<K: Sink>()
     ensures { (sink sink' : K) → (bytes : List ℕ) → (result : Result (Unit {0}) Failed)
         → ((before after : K) → (from : List ℕ) → (n : ℕ) → K.may_put before from (Ok n) after → n ≡ length from)

@@ -29,8 +29,8 @@ pub enum ReadFault {
 /// How many bytes are asked for at once.
 const PIECE: usize = 4096;
 
-/// Reads all that is left of the source, where that is at most `limit` bytes. Of more it takes no more than one byte past the limit, which is
-/// TooLong. It stops at the first call that fails, which is Failed.
+/// Reads all that is left of the source, where that is at most `limit` bytes. Of more it takes no more than one byte past the limit, which is TooLong.
+/// It stops at the first call that fails, which is Failed; want of memory is Memory.
 pub fn read_all<S: Source>(alloc: Global, source: &mut S, limit: usize) -> Result<Bytes, ReadFault>
     ensures whole { IfOk result (λ bytes. Consumes (S.left source.old) (S.left source.new) bytes
         × IsAtEnd (S.left source.new) × (length bytes ≤ limit)) }

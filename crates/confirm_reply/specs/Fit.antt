@@ -12,7 +12,9 @@ use Rattle.confirm_reply.specs.declared.trial.Trial.{Trial}
 abbrev pub IsCheckableAt : Packages → List (Act × Actions) → ℕ → Type 0
 IsCheckableAt packages trees n = (tree : Act × Actions) → slice_get trees n ≡ Some tree → IsCheckable packages tree.0 tree.1
 
--- what the definitions try of a trial: its nodes as trees, its core, and whether its view is a root view
+-- What the definitions take of a trial, which is all that the check of a view's core has at hand: the opened actions in pre-order, each with what
+-- stands below it, the numbers of the core's actions among these, and whether the view is a root view. N and T are parameters of the trial's type
+-- alone.
 abbrev pub matter_of : {N : Type 0} {T : N → Type 0} → Trial N T → Matter
 matter_of trial = record { trees = trees_in trial.nodes.now; core = trial.core.now; is_root = trial.is_root }
 

@@ -21,7 +21,8 @@ abbrev pub taken : List (Act × Actions) → List ℕ → List (ℕ × Act)
 taken trees [] = []
 taken trees (n ∷ ns) = taken_at n (slice_get trees n) ++ taken trees ns
 
--- the action of a tree, in a list and without the number n; none where there is no tree
+-- The action of a tree as a list of one, and the empty list where there is no tree: what `actions_taken` gives of one number. The result doesn't hang
+-- on the number n, which `taken_at` puts beside the action.
 abbrev pub action_taken : ℕ → Option (Act × Actions) → List Action
 action_taken n tree = map (λ (act : Act). act.action) (acts_of_core (taken_at n tree))
 
@@ -53,7 +54,7 @@ abbrev pub stays_in : PartySet → Roles → Bool
 stays_in informees roles = is_subset roles.informees informees
 
 -- Whether actions with the roles `core` make up a core of a view with these informees and confirmers, and those with the roles `below` begin views
--- directly below it. False of no action.
+-- directly below it. False of an empty core.
 abbrev pub is_split_by : (informees confirmers : PartySet) → (core below : List Roles) → Bool
 is_split_by informees confirmers [] below = false
 is_split_by informees confirmers (first ∷ rest) below =

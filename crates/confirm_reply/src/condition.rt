@@ -44,8 +44,8 @@ fn are_sure(alloc: Global, checked: &Checked, nodes: &[&ActionNode]) -> Result<b
     Ok(true)
 }
 
-/// Whether the view with this path is opened and can be checked: every action that is opened has roles and an instance that can
-/// be encoded, and the view's core has no more actions than a verdict can number.
+/// Whether the view with this path is opened in `tree` and can be checked: every action that is opened has roles by the packages (`checked`) and an
+/// instance that has a spelling, and the view's core has no more actions than a verdict can number.
 pub fn can_check(
     alloc: Global,
     checked: &Checked,

@@ -28,8 +28,8 @@ pub(crate) fn has_vetted(input: &OpenedInput<'_>, required: Name) -> bool
     }
 }
 
-/// Whether participant `me` hosts a stakeholder of the contract with this instance, to confirm for it or only to observe. Where signatories or
-/// observers have no value, nobody is a stakeholder.
+/// Whether participant `me` hosts a stakeholder of the contract with this instance, to confirm for it or only to observe. Where the fields haven't the
+/// declared kinds, or signatories or observers have no value, nobody is a stakeholder.
 #[tactic(auto, using(crate::proofs::Stakeholders::any_of_both))]
 pub fn has_hosted_stakeholder(
     alloc: Global,

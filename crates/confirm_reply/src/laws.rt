@@ -19,8 +19,8 @@ ghost use Rattle.confirm_reply.specs.Facts.{AreKnown, IsFactOf, fact_on};
 ghost use Rattle.confirm_reply.specs.Opened.{CanBeChecked};
 ghost use Rattle.confirm_reply.specs.declared.id_facts.IdFacts.{IdFacts};
 
-/// Each view that is opened can be checked where all that is opened can be encoded, the view's core has no more actions than a
-/// verdict can number, and each view that is opened has as many holes as views stand directly below it, or all have roles.
+/// Each opened view can be checked where all opened instances have spellings, the view's core has no more actions than a verdict can number, and either
+/// each opened view has as many holes as views stand directly below it, or all opened actions have roles.
 pub fn opened_views_can_be_checked()
     ensures filled { (packages : Packages) (tree : OpenedTree) (view : OpenedView) → Contains (shown_by tree).views view
         → AreFilled (map_forest (λ (v : Path × SplitView). v.1) (placed_forest tree.views))

@@ -37,10 +37,9 @@ pub fn put_together(alloc: Global, input: &CheckInput<'_>) -> Result<ActionNodeL
     }
 }
 
-/// A participant's verdict on the view with this path. Where nothing is opened it is the fixed reason, and a view that isn't among what is opened is
-/// rejected as ViewMissing. Then it is tried whom the request is from and how the view is split. After these each of nine reasons is tried over the
-/// whole core before the next, and the action is the first in pre-order that shows it. A choice that `natives` has is asked of them in place of the
-/// contract language.
+/// A participant's verdict on the view with this path. In this order are tried: whether anything is opened (else the fixed reason), whether the view is
+/// (ViewMissing), whom the request is from, how the view is split, and nine reasons, each over the whole core, with the first action that shows it. The
+/// choices that `natives` has are asked of them in place of the contract language.
 pub fn check_view(
     alloc: Global,
     natives: &NativeList,
@@ -56,7 +55,8 @@ pub fn check_view(
     check_view_among(alloc, natives, input, &roots, view)
 }
 
-/// As `check_view`, where `roots` are the trees of all that is opened, which are put together once for all views of a request.
+/// The verdict that `check_view` gives on the view with this path. `roots` are the trees of all that is opened, as `put_together` gives them, once for
+/// all views of a request.
 pub fn check_view_among(
     alloc: Global,
     natives: &NativeList,

@@ -13,7 +13,7 @@ pub data Breaks (earlier : List Act) (a : Act) : Type 0 where
   NotCreated : is_create a.action ≡ false → list_any (creates (id_of a.action)) earlier ≡ false → Breaks earlier a
   -- it is a Create, and not the first on its contract
   CreatedLate : is_create a.action ≡ true → list_any (is_on (id_of a.action)) earlier ≡ true → Breaks earlier a
-  -- it follows a consuming Exercise
+  -- it follows a consuming Exercise of its contract
   AfterConsumption : list_any (consumes (id_of a.action)) earlier ≡ true → Breaks earlier a
   -- an earlier action on its contract carries another instance
   OtherInstance : (b : Act) → Contains earlier b → SameContract b a → instance_of b.action ≢ instance_of a.action → Breaks earlier a

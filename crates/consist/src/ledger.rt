@@ -29,9 +29,9 @@ fn first_breaking(alloc: Global, ledger: &CommitList) -> Result<Option<LedgerPla
     Ok(None)
 }
 
-/// Where the first action of a ledger stands, in commit order and then pre-order, that breaks consistency with those before it: no Create of its
-/// contract stands before it and it is none, it is a Create and not the first on its contract, a consuming Exercise stands before it, or an earlier
-/// action carries another instance. None where no action does; Err is want of memory.
+/// Where the first action of a ledger stands, in commit order and then pre-order, that breaks consistency: it isn't a Create and no Create of its
+/// contract stands before it, or it is one and not the first on its contract, a consuming Exercise of it stands before it, or an earlier action on it
+/// has another instance. None where no action does; Err is want of memory.
 pub fn find_inconsistent(
     alloc: Global,
     ledger: &CommitList,

@@ -35,7 +35,7 @@ created_rows ps = map row_for (filter is_creation ps)
 abbrev pub is_left : List Act → ActiveRow → Bool
 is_left all row = not (list_any (consumes row.known.id) all)
 
--- the contracts that these actions create and none of them consumes, each as it was created first
+-- The contracts that these actions create and none of them consumes, in order, each once, with the place of its first Create.
 abbrev pub rows_left : List Placed → List ActiveRow
 rows_left ps = filter (is_left (acts_of ps)) (first_of_each (created_rows ps))
 

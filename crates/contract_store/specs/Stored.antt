@@ -21,7 +21,7 @@ pub record Stored : Type 0 where
   pub holds : List Hold
   -- the ids for which there is room
   pub ready : List Hash
-  -- how many more changes take no memory
+  -- how many more changes and holds, counted together, take no memory
   pub spare : ℕ
   -- how many holds are kept, those that were released too
   pub kept : ℕ

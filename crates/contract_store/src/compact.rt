@@ -125,8 +125,8 @@ fn keep_live(
     slots.truncate(to);
 }
 
-/// Takes the released holds out of the vector where they are more than the others, so that on average each is passed once for a release. `dead` is
-/// how many released ones there are.
+/// Takes the released holds out of the vector `slots` where they are more than the others, so that on average each is passed once for a release; the
+/// maps of ids and of places then lead to where the others stand. `dead` is how many released ones the vector has.
 pub fn drop_released(
     slots: &mut Vec<KeptHold>,
     ids: &mut IndexMap<Hash, ContractPlaces>,

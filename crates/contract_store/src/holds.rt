@@ -31,7 +31,8 @@ pub fn put_place(places: &mut IndexMap<u64, usize>, place: u64, at: usize)
     let _ = places.insert(place, at).unwrap();
 }
 
-/// Puts one more hold at the end, where the maps then lead. Room was made for it, so it takes no memory.
+/// Puts one more hold at the end of the vector `slots`, to which the id of its contract and the place of its request then lead. Room was made for it,
+/// so it takes no memory.
 pub fn push_hold(
     slots: &mut Vec<KeptHold>,
     ids: &mut IndexMap<Hash, ContractPlaces>,
@@ -160,7 +161,8 @@ fn release_next(
     slot.before_at
 }
 
-/// Releases the holds of the request at `place`. `dead` counts all that were released and are still in the vector.
+/// Releases the holds of the request at `place`: they stay in the vector `slots`, and the maps no longer lead to them. `dead` counts all that were
+/// released and are still in the vector.
 pub fn release_place(
     slots: &mut Vec<KeptHold>,
     ids: &mut IndexMap<Hash, ContractPlaces>,

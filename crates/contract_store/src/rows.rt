@@ -112,7 +112,8 @@ fn push_row(
     put_row(ids, id, at);
 }
 
-/// Notes that the request at `place` creates the contract: in its row, or in a new one where it has none. Room was made, so it takes no memory.
+/// Notes that the request at `place` creates the contract `known`: in its row, or in a new one at the end of `kept`, to which `ids` and `salts` then
+/// lead. Room was made, so it takes no memory.
 pub fn create_row(
     kept: &mut Vec<KeptRow>,
     ids: &mut IndexMap<Hash, ContractPlaces>,
@@ -147,7 +148,8 @@ pub fn create_row(
     }
 }
 
-/// Notes that the request at `place` consumes the contract: in its row, or in a new one where it has none. Room was made, so it takes no memory.
+/// Notes that the request at `place` consumes the contract `known`: in its row, or in a new one at the end of `kept`, to which `ids` and `salts` then
+/// lead. Room was made, so it takes no memory.
 pub fn consume_row(
     kept: &mut Vec<KeptRow>,
     ids: &mut IndexMap<Hash, ContractPlaces>,

@@ -24,7 +24,7 @@ pub record IsConfirmed (topology : Topology) (view : ViewRoles) : Type 0 where
   pub among : is_subset view.confirmers view.informees ≡ true
   pub known : (party : List ℕ) → Contains view.informees party → is_hosted topology party ≡ true
 
--- the participants that confirm a confirmer of one of these views, in the order of the topology
+-- the participants that confirm for a confirmer of one of these views, in the order of the topology
 abbrev pub asked_by : Topology → List ViewRoles → List ℕ
 asked_by topology views =
     filter (λ p. list_any (λ (view : ViewRoles). list_any (confirms_at topology.hosts p) view.confirmers) views) (participants_of topology)
@@ -42,10 +42,9 @@ AreBytes bytes = All (λ b. b < 256) bytes
 abbrev pub recipient_of : Envelope → ℕ
 recipient_of envelope = envelope.to
 
--- A request is framed where the mediator's bytes spell a tree that tells the informees and confirmers of at least one view, and
--- neither the requesters nor the contents of a view; where each of these views is confirmed, just who confirms for one is asked,
--- the sender is a participant, each envelope is one participant's, in the order of the topology; and where what is sent are bytes
--- within the limit.
+-- A request is framed where the mediator's bytes spell a tree that tells the informees and confirmers of at least one view, and neither requesters nor
+-- contents; each view is confirmed, and asked are just those who confirm for one; the sender is a participant; envelopes go to participants in order,
+-- at most one to each; and the mediator's and each envelope's are bytes within the limit.
 pub record IsFramed (topology : Topology) (request : Request) : Type 0 where
   pub tree : Tree
   pub spells : tree_in request.mediator ≡ Some tree
@@ -65,7 +64,7 @@ pub record IsFramed (topology : Topology) (request : Request) : Type 0 where
 
 -- ---- the test that decides it
 
--- the test of `IsConfirmed`
+-- the test of `IsConfirmed`: the view has a confirmer, its confirmers are among its informees, and these are parties of the topology
 abbrev pub is_confirmed : Topology → ViewRoles → Bool
 is_confirmed topology view =
     nat_lt 0 (length view.confirmers) && (is_subset view.confirmers view.informees && list_all (is_hosted topology) view.informees)
@@ -92,7 +91,7 @@ is_tree_framed topology confirming None = false
 is_tree_framed topology confirming (Some tree) =
     not (is_plain tree.requesters) && (hides_contents tree.views && are_views_framed topology confirming (found (informee_tree_of tree)))
 
--- the test of `AreBytes`
+-- the test of `AreBytes`: each of these numbers is below 256
 abbrev pub are_bytes : List ℕ → Bool
 are_bytes bytes = list_all (λ b. nat_lt b 256) bytes
 

@@ -73,8 +73,8 @@ if_known topology Mismatch = Mismatch
 if_known topology Missing = Missing
 if_known topology (Open opened) = if names_known topology opened then Open opened else Missing
 
--- What an envelope with these bytes offers participant p: all that it is to see (Open), or not all (Missing), or a tree with another root hash or none
--- (Mismatch).
+-- What an envelope with these bytes offers participant p: all that it is to see (Open); or a tree of the request in which something asked for can't be
+-- read, or an action names a party that the topology lacks (Missing); or no tree with the mediator's root hash (Mismatch).
 abbrev pub offered_by : Topology → ℕ → Request → List ℕ → OpenedFor
 offered_by topology p request bytes =
     if_known topology (opened_for_root (root_of request) (paths_seen topology p request) (sees_root_view topology p request) bytes)

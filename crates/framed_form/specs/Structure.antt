@@ -18,7 +18,7 @@ pub record IsStructured (roles : Action → Roles) (view : SplitView) (subviews 
   pub inside : (act : Act) → Contains (inner view.below) act → starts roles view.informees act ≡ false
   pub below : (subview : SplitView) → Contains (roots_of subviews) subview → starts roles view.informees subview.first ≡ true
 
--- each of these views, and of those below them, is structured so
+-- each of these views, and of those below them, has the structure that `IsStructured` asks for; `roles` gives an action's roles
 abbrev pub AreStructured : (Action → Roles) → Forest SplitView → Type 0
 AreStructured roles NoRoots = Unit {0}
 AreStructured roles (Root view subviews others) = IsStructured roles view subviews × AreStructured roles subviews × AreStructured roles others

@@ -65,7 +65,8 @@ pub fn framed_requests_that_are_made_are_sealed()
         → IsSealedForm topology packages request }
 {}
 
-/// In a log that doesn't collide, any two trees of one request with one root agree on every leaf that both show.
+/// In a log that doesn't collide, any two trees of one request with one root agree on every leaf that both show, where what the request sends are
+/// bytes.
 pub fn requests_agree_where_a_log_does_not_collide()
     ensures { (topology : Topology) (log : List Entry) (k : ℕ) (request : Request)
         → (Collides topology log → ⊥)
@@ -95,7 +96,7 @@ pub fn structured_views_are_those_of_the_rules()
 {}
 
 /// A request of which everybody is told and shown what the rules ask for (`IsByRules`) is sound where its actions have roles, and also where each of
-/// its views is vouched for.
+/// its views is vouched for; provided that who confirms for a party hosts it, and each action that has roles has a signatory.
 pub fn requests_by_the_rules_are_sound()
     ensures roles { (reading : Reading) (request : Request) (sender : Name) (transaction : Transaction)
         → ((p : ParticipantId) (name : Name) → reading.confirms p name ≡ true → reading.hosts p name ≡ true)
@@ -146,8 +147,8 @@ pub fn framed_logs_are_one_ledger()
         → Consistent (ledger_acts (ledger (framed_reading topology packages) log)) }
 {}
 
-/// The envelopes of a sealed request are complete: each opens to its recipient just the views that it sees, and the requesters
-/// where one of them is a root view. They show what the rules show of its transaction, and together they are read back as that.
+/// The envelopes of a sealed request are complete: each opens to its recipient just the views that it sees, and the requesters where one of them is a
+/// root view, which is what the rules show of its transaction. Where the request is framed, its whole is that transaction, and it is sound.
 pub fn sealed_requests_are_complete()
     ensures opened { (topology : Topology) (packages : Packages) (request : Request) (sealed : IsSealedForm topology packages request) (p : ParticipantId)
         → is_recipient topology.hosts (views_by packages (sealed.whole).transaction) request.sender p ≡ true

@@ -17,16 +17,17 @@ use Rattle.inbox_registry.specs.Order.{IsInOrder}
 abbrev pub CreatedOnce : List Placed → Type 0
 CreatedOnce ps = (c : Hash) → length (filter (creates c) (acts_of ps)) ≤ 1
 
--- What a participant offers to its submissions are the active contracts at the inbox's end that a start and the items since make, in order of
--- creation, though the store was written in the order in which verdicts were read. It is the law `offered_is_active`.
+-- What a participant offers to its submissions are the active contracts at the inbox's end that a start at base b and the items since make, in order of
+-- creation, though the store was written in the order of the verdicts. The inbox is in order, no contract is created twice, and none that is gone is
+-- created. It is the law `offered_is_active`.
 abbrev pub OfferedIsActive : Type 0
 OfferedIsActive = (reading : Reading) (party : ParticipantId) (b : ℕ) (start : Start) (items : List Item) → IsInOrder items → StandsBelow b start items
     → CreatedOnce (changes_since reading start items) → NoneGone start (changes_since reading start items) → b ≤ length items
     → filter (λ (a : ActiveRow). is_stakeholder_hosted reading party a.known.instance) (active_rows (written (changes_since reading start items) []))
     ≡ active_kept reading party start items (length items)
 
--- What a participant offers to its submissions, where its inbox has forgotten nothing and creates no contract twice, are the model's active contracts
--- at its end. It is the law `offered_is_node_active`.
+-- What a participant offers to its submissions, where its inbox has forgotten nothing, is in order and creates no contract twice, are the model's
+-- active contracts at its end. It is the law `offered_is_node_active`.
 abbrev pub OfferedIsNodeActive : Type 0
 OfferedIsNodeActive = (reading : Reading) (party : ParticipantId) (items : List Item) → IsInOrder items → CreatedOnce (changes_in reading items)
     → filter (λ (a : ActiveRow). is_stakeholder_hosted reading party a.known.instance) (active_rows (written (changes_in reading items) []))

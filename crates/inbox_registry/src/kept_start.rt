@@ -12,7 +12,7 @@ use std::alloc::{AllocError, Global};
 use std::marker::Model;
 
 /// What an inbox left at its base: the contracts active there, in order of creation, and the ids of the others that requests below it
-/// were on. Of an inbox that has forgotten nothing there are none.
+/// create or consume. Of an inbox that has forgotten nothing there are none.
 #[derive(Drop)]
 pub struct KeptStart {
     active: ActiveRowList,

@@ -83,8 +83,8 @@ impl Registry {
         }
     }
 
-    /// Writes into the store what the request at a place did, before anything that was read since the base, as for a start's active contracts. Room
-    /// was made for it, so it takes no memory.
+    /// Writes into the store what the request at a place did. By it the contracts that a start left active come into the store, before any entry since
+    /// the base is read. Room was made for it, so it takes no memory.
     pub fn write(&mut self, place: u64, changes: Vec<Change>)
         requires { HasRoom self.old.store.ready self.old.store.spare changes.items }
         ensures rows { self.new.store.rows ≡ write_changes place changes.items self.old.store.rows }
@@ -116,7 +116,7 @@ impl Registry {
         self.tracker.cursor()
     }
 
-    /// The clean place: the least place of an undecided request, and the cursor where there is none.
+    /// The clean place: the least place of an undecided request, and the cursor where there is none, or where the cursor is less.
     pub fn clean(&self) -> u64
         ensures { result ≡ clean_of self.now.tracking.pairs self.now.tracking.cursor }
     {
@@ -124,7 +124,7 @@ impl Registry {
     }
 
     /// Tracks the request that comes at the cursor, whose decision time is `decision`, in microseconds, and makes room for its holds on the contracts
-    /// with these ids.
+    /// with these ids. After want of memory the request isn't tracked.
     pub fn begin(&mut self, decision: u64, ids: &HashList) -> Result<(), AllocError>
         requires { tracked_at self.old.tracking.pairs self.old.tracking.cursor ≡ None }
         ensures rows { self.new.store.rows ≡ self.old.store.rows }
@@ -179,8 +179,8 @@ impl Registry {
         hold_all(&mut self.store, place, ids);
     }
 
-    /// Gives the request at a place this outcome, releases its holds and writes these changes, which are those of an approved one. Room was made for
-    /// it, so it takes no memory.
+    /// Gives the request at a place this outcome, releases its holds and writes these changes: those of the request where it is approved, and else
+    /// none. Room was made for them, so it takes no memory.
     pub fn settle(&mut self, place: u64, outcome: Outcome, changes: Vec<Change>)
         requires { HasRoom self.old.store.ready self.old.store.spare changes.items }
         ensures rows { self.new.store.rows ≡ write_changes place changes.items self.old.store.rows }

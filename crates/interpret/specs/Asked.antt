@@ -17,7 +17,7 @@ abbrev pub asked_turn : Packages → List Known → List ℕ → Asking → ℕ 
 asked_turn packages known path (Body call) index seen = turn_of path (next packages call.now seen)
 asked_turn packages known path (Commands commands) index seen = command_turn packages known index (slice_get commands.now index)
 
--- what is known after one more action: a body learns its result, and a command learns nothing of those before it
+-- what was learnt after one more action: a body learns what the action gives, and commands learn nothing, so that none knows of those before it
 abbrev pub learnt : Asking → List ChildResult → Action → List ChildResult
 learnt (Body call) seen a = seen ++ result_of_child a ∷ []
 learnt (Commands commands) seen a = []

@@ -50,7 +50,8 @@ abbrev pub IsKnownAs : List Known → ContractRef → Known → Type 0
 IsKnownAs known (Id id) k = find_known id known ≡ Some k
 IsKnownAs known (Label l) k = find_salt (label_seed l) known ≡ Some k
 
--- the last is the id of a contract that is handed in: what its own reference names, or without one that of salt and instance
+-- `id` is that of a contract that is handed in with this salt and instance: the one that the reference with it names, or without one the hash of
+-- both (`id_of`)
 abbrev pub IsForgedId : List Known → Option ContractRef → Hash → Instance → Hash → Type 0
 IsForgedId known None salt i id = id ≡ id_of salt i
 IsForgedId known (Some r) salt i id = Names known r id
@@ -94,19 +95,20 @@ pub record IsFilled (known : List Known) (seed : Hash) (drafts : Drafts) (forest
 abbrev pub Placed : Type 0
 Placed = ℕ × (List ℕ × DraftAction)
 
--- the input names a contract that is known, or hands one in
+-- whether the input of a draft names a contract that is known; true of one that hands a contract in
 abbrev pub is_input_known : List Known → Input → Bool
 is_input_known known (KnownInput (Id id)) = is_some (find_known id known)
 is_input_known known (KnownInput (Label l)) = is_some (find_salt (label_seed l) known)
 is_input_known known (Forged given salt template fields) = true
 
--- the contract that a draft says is known is so; a Create names none
+-- whether the contract that a draft says is known is known; true of a Create, which names none
 abbrev pub is_contract_known : List Known → DraftAction → Bool
 is_contract_known known (DraftCreate template fields) = true
 is_contract_known known (DraftExercise input choice args actors consuming result) = is_input_known known input
 is_contract_known known (DraftFetch input actors) = is_input_known known input
 
--- the tests of one draft in order, each with the fault where it is false: its depth, its number, and whether its contract is known
+-- The tests of one draft in order: its depth, its number, and whether its contract is known. Each is true where it passes, and has beside it its
+-- fault where it is false.
 abbrev pub action_tests : List Known → Placed → List (Bool × CommandFault)
 action_tests known x =
     (nat_le (length (x.1).0) MOST_ACTION_DEPTH, TooDeep (x.1).0)
@@ -114,7 +116,7 @@ action_tests known x =
     ∷ (is_contract_known known (x.1).1, ContractUnknown (x.1).0)
     ∷ []
 
--- every label in these drafts, with all their consequences, names a known contract
+-- whether every label in these drafts, with all their consequences, names a known contract
 abbrev pub are_placed_named : List Known → Forest Placed → Bool
 are_placed_named known NoRoots = true
 are_placed_named known (Root x below others) =

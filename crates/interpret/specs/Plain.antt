@@ -5,7 +5,7 @@ use Rattle.interpret.specs.declared.command_fault.CommandFault.{CommandFault}
 use Rattle.interpret.specs.declared.command_fault.CommandFault.TheVariants.{UnknownTemplate, UnknownChoice, BadArgs, ContractUnknown, Eval}
 use Rattle.interpret.specs.declared.command_fault.CommandFault.TheVariants.{TooDeep, TooMany, Unauthorised, TooBig, Memory}
 
--- The fault is one of the commands or of the language, and not want of memory, which may also be that of an evaluation (`Eval`).
+-- the fault is not want of memory, nor want of memory in an evaluation (`Eval`)
 abbrev pub IsPlain : CommandFault → Type 0
 IsPlain (Eval path e) = e ≢ NoMemory
 IsPlain Memory = ⊥

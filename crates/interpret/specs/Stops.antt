@@ -39,20 +39,21 @@ abbrev pub evaluation_fault : {A : Type 0} → List ℕ → Result A EvalFault �
 evaluation_fault path (Err e) others = Some (Eval path e)
 evaluation_fault path (Ok a) others = others a
 
--- The first test of an Exercise that fails before its body, None where all pass. The contract was looked up: it is there, the parties have
--- values, and the actors are among the authorisers `by`.
+-- The fault of the first test of an Exercise that fails before its body, None where all pass: the contract, which was looked up, is there, the
+-- arguments keep their limit, the choice's controllers and observers have values, and there are controllers, all among the authorisers `by`.
 abbrev pub exercise_fault : Packages → List ℕ → PartyNames → Option Known → List ℕ → List Value → Option CommandFault
 exercise_fault packages path by None choice args = Some (ContractUnknown path)
 exercise_fault packages path by (Some k) choice args =
     evaluation_fault path (call_controllers packages (call_of k choice args)) (λ actors. fault_where (not (are_authorised actors by)) (Unauthorised path) None)
 
--- The first test of a Fetch that fails, None where all pass: the contract, which was looked up, is there, and a stakeholder is among the
--- authorisers.
+-- The fault of the first test of a Fetch that fails, None where all pass: the contract, which was looked up, is there, and one of its stakeholders
+-- is among the authorisers `by`.
 abbrev pub fetch_fault : Packages → List ℕ → PartyNames → Option Known → Option CommandFault
 fetch_fault packages path by None = Some (ContractUnknown path)
 fetch_fault packages path by (Some k) = fault_where (is_empty (fetchers packages k.instance by)) (Unauthorised path) None
 
--- the first test that fails of an action that is asked for, where there is room for it; of an Exercise before its body; None where all pass
+-- The fault of the first test that fails of an action that is asked for, where depth and number leave room for it; of an Exercise before its body.
+-- None where all pass.
 abbrev pub demand_fault : Packages → List Known → Progress → List ℕ → PartyNames → Demand → Option CommandFault
 demand_fault packages known progress path by (CreateDemand t fields) =
     evaluation_fault path (created_signatories packages (record { template = t; fields = fields }))
@@ -66,8 +67,8 @@ abbrev pub is_zero : ℕ → Bool
 is_zero zero = true
 is_zero (suc n) = false
 
--- The first test that fails of an action that is asked for, of an Exercise before its body: the depth, the number of
--- actions, the contract, the evaluations, the authority. None where all pass.
+-- The fault of the first test that fails of an action that is asked for, of an Exercise before its body: the depth, the number of actions, the
+-- contract, the evaluations, the authority are tried in this order. None where all pass.
 abbrev pub first_fault : Packages → List Known → ℕ → Progress → List ℕ → PartyNames → Demand → Option CommandFault
 first_fault packages known left progress path by demand =
     fault_where (is_zero left) (TooDeep path) (fault_where (nat_le MOST_ACTIONS progress.count) (TooMany path)

@@ -23,7 +23,7 @@ use Rattle.interpret.specs.Language.{is_creatable, is_exercisable}
 abbrev pub same_values : List Value → List Value → Bool
 same_values = pointwise value_eq.ghosts.eq
 
--- whether an action is the one that a step of a body asks for; a seed, a salt, actors and a result aren't compared
+-- whether an action is the one that a step of a body asks for; what the step doesn't say (a Create's id, a salt, actors, a result) isn't compared
 abbrev pub is_demanded : Step → Action → Bool
 is_demanded (CreateNext template fields) (Create id i) = template_eq.ghosts.eq i.template template && same_values i.fields fields
 is_demanded (ExerciseNext template id choice args) (Exercise id' salt i choice' args' actors consuming result) =
@@ -31,7 +31,7 @@ is_demanded (ExerciseNext template id choice args) (Exercise id' salt i choice' 
 is_demanded (FetchNext template id) (Fetch id' salt i actors) = template_eq.ghosts.eq i.template template && same_name id' id
 is_demanded step action = false
 
--- whether what a body does next is to ask for this action; not so for a fault
+-- whether what a body does next is to ask for this action; false where its evaluation has a fault
 abbrev pub asks : Result Step EvalFault → Action → Bool
 asks (Ok step) action = is_demanded step action
 asks (Err e) action = false
@@ -41,7 +41,7 @@ abbrev pub is_done : Step → Value → Bool
 is_done (Done v) result = value_eq.ghosts.eq v result
 is_done step result = false
 
--- whether what a body does next is to end with this result; not so for a fault
+-- whether what a body does next is to end with this result; false where its evaluation has a fault
 abbrev pub gives : Result Step EvalFault → Value → Bool
 gives (Ok step) result = is_done step result
 gives (Err e) result = false
@@ -58,19 +58,19 @@ abbrev pub continues : Packages → Body → List ChildResult → Action → Boo
 continues packages NoBody seen action = false
 continues packages (BodyOf call result) seen action = asks (next packages call seen) action
 
--- whether a body ends after these children with the result that it has to have; without a body there is nothing to end
+-- whether a body ends, after children of which it learnt `seen`, with the result that it has to have; true where there is no body
 abbrev pub ends : Packages → Body → List ChildResult → Bool
 ends packages NoBody seen = true
 ends packages (BodyOf call result) seen = gives (next packages call seen) result
 
--- Whether these trees are the rest of what a body does after what it has seen, and each is possible with all below it.
+-- whether these trees are all that a body does after children of which it learnt `seen`, and each is possible with all below it
 abbrev pub are_rest : Packages → Body → List ChildResult → Actions → Bool
 are_rest packages body seen NoRoots = ends packages body seen
 are_rest packages body seen (Root act consequences others) =
     (continues packages body seen act.action && (is_possible packages act.action && are_rest packages (body_of act.action) [] consequences))
     && are_rest packages body (seen ++ result_of_child act.action ∷ []) others
 
--- whether an action is possible with these consequences
+-- whether an action is possible with these consequences, as `reexecute` answers: by itself, and they are what its choice does
 abbrev pub is_tree_possible : Packages → Action → Actions → Bool
 is_tree_possible packages action consequences = is_possible packages action && are_rest packages (body_of action) [] consequences
 

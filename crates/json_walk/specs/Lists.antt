@@ -23,7 +23,8 @@ list_of item_of at d = do
   items ← items_of at d
   walk_items (item_step item_of at) 0 [] items
 
--- What the items of a list say, in order, as `list_of` has it, where the length of the list keeps the limit; else the fault Limit at the list.
+-- What the items of a list say, in order: `item_of` reads each, given its place and value. The first fault is the result: Shape where the value `d` at
+-- the place `at` is no list, Limit where its length is outside the limit, else that of an item.
 unfoldable pub few_of : {A : Type 0} → (Place → Data → Result A WalkFault) → Place → Limit → Data → Result (List A) WalkFault
 few_of item_of at limit d = do
   items ← few_items_of at limit d

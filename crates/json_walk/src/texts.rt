@@ -13,7 +13,7 @@ use ledger_terms::{Name, TemplateName, Text};
 use serde_json::Value;
 use std::alloc::Global;
 
-/// The text `text` as one of its own, made with `alloc`; the fault Limit at the place `at` where it has more bytes than a text may have.
+/// A copy of `text` in memory of its own, made with `alloc`; the fault Limit at the place `at` where it has more bytes than a text may have.
 #[tactic(auto, unfolding(crate::specs::Texts::text_of))]
 pub fn read_text(alloc: Global, text: &str, at: &Place) -> Result<Text, WalkFault>
     ensures { Follows WalkFault.Memory result (text_of at.now text.now) }

@@ -11,9 +11,9 @@ use std::marker::Brand;
 use std::sync::Wait;
 use std::thread::{Threads, join};
 
-/// Gives each of the lanes 0 to `lanes - 1` the turns 0 to `turns - 1` of `work`, side by side in threads that `rt` starts, each once, and fewer once a
-/// turn of any lane has answered Err. The result is Ok where all turns were taken. All lanes have ended when it returns. It takes no memory of its own;
-/// where a thread can't be started, its lanes run in the caller's.
+/// Gives each of the lanes 0 to `lanes - 1` the turns 0 to `turns - 1` of `work`, side by side in threads that `rt` starts, each once. `start` is what
+/// turns are made of. Once a turn of any lane answers Err fewer are given, and the result is Err. All lanes have ended when it returns. It takes no
+/// memory of its own; where a thread can't be started, its lanes run in the caller's.
 pub fn run_lanes<R: Threads + Wait + Sync, L: Lane>(
     rt: &R,
     lanes: u32,

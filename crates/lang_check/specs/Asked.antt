@@ -27,8 +27,8 @@ IsAsked packages returns (ExerciseNext t id choice args) =
 IsAsked packages returns (FetchNext t id) = (template : TemplateForm) × (template_in t packages ≡ Some template)
 IsAsked packages returns (Done v) = kind_of v ≡ returns
 
--- What a child gave answers the step that asked for it: an id for a Create, a result of the choice's kind for an Exercise, a contract of
--- the template with fields of its kinds for a Fetch.
+-- What a child gave answers the step that asked for it: an id for a Create, a result of the choice's kind for an Exercise, a contract of the template
+-- with fields of its kinds for a Fetch. Nothing answers Done.
 abbrev pub IsAnswer : Packages → Step → ChildResult → Type 0
 IsAnswer packages (CreateNext t fields) (Created id) = Unit {0}
 IsAnswer packages (ExerciseNext t id choice args) (Returned v) =
@@ -36,8 +36,8 @@ IsAnswer packages (ExerciseNext t id choice args) (Returned v) =
 IsAnswer packages (FetchNext t id) (Fetched i) = (i.template ≡ t) × (has_kinds packages i ≡ true)
 IsAnswer packages step seen = ⊥
 
--- The last list has results of children that come after those of `before`, and each of them answers the step that the call's body takes
--- after all those in front of it.
+-- The results of children `seen`, the last argument, come after those of `before`, and each of them answers the step that the call's body takes after
+-- all those in front of it.
 abbrev pub AreAnswers : Packages → ChoiceCall → List ChildResult → List ChildResult → Type 0
 AreAnswers packages call before [] = Unit {0}
 AreAnswers packages call before (s ∷ seen) =

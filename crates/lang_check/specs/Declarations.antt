@@ -18,33 +18,35 @@ use Rattle.lang_check.specs.Statements.{is_among, stmts_from}
 abbrev pub NameLists : Type 0
 NameLists = List (List ℕ)
 
--- A name that is declared at this place. It is a fault where one of those before it, `taken`, is the same; else the answer is all of them.
+-- The names `taken` with one more at their end, which is declared at this place; or DuplicateName there, where it is among them already.
 unfoldable pub named_at : Place → List ℕ → NameLists → Result NameLists CheckFault
 named_at at name taken = do
   _ ← tried (not (is_among name taken)) DuplicateName at
   Ok (taken ++ name ∷ [])
 
--- Fields, parameters or templates of a list have names that differ from each other and from those of `taken`, or the first that doesn't
--- is a DuplicateName. The list stands at `at`, and the names are those of its items from the i-th on.
+-- Nothing where these names (the last argument) differ from each other and from those `taken` before, else DuplicateName at the first that doesn't.
+-- They are the names of fields, parameters or templates: of the i-th item, from 0, and further ones of the list at `at`.
 abbrev pub names_from : Place → ℕ → NameLists → NameLists → Result ⊤ CheckFault
 names_from at i taken [] = Ok tt
 names_from at i taken (n ∷ ns) = named_at (at_member (at_item at i) (codes "name")) n taken >>= λ more. names_from at (i + 1) more ns
 
--- A choice's name at this place. It is a fault where a choice before has it, and where it is Archive, which each template has built in.
+-- The names `taken` of the choices before, with this choice's name at their end, which stands at this place; or the fault there: DuplicateName where it
+-- is among them, Reserved where it is Archive, which each template has built in.
 unfoldable pub choice_name_at : Place → List ℕ → NameLists → Result NameLists CheckFault
 choice_name_at at name taken = do
   more ← named_at at name taken
   _ ← tried (not (same_name archive_name name)) Reserved at
   Ok more
 
--- controllers and then observers of the choice at this place are sets of parties, or the first fault
+-- nothing where the controllers and the observers of choice c of template t, which stands at this place, are sets of parties; else the first fault, of
+-- controllers first
 unfoldable pub choice_parties_at : Place → TemplateForm → ChoiceForm → Result ⊤ CheckFault
 choice_parties_at at t c = do
   _ ← expr_at (at_member at (codes "controllers")) (choice_scope t c) PartiesKind c.controllers
   expr_at (at_member at (codes "observers")) (choice_scope t c) PartiesKind c.observers
 
--- the body of the choice at this place is well typed, and its result, in the scope after the body, has the kind that it returns; or the
--- first fault
+-- nothing where the body of choice c of template t, which stands at this place, is well typed, and its result has the kind that it returns, in the
+-- scope after the body; else the first fault
 unfoldable pub choice_body_at : Place → Packages → TemplateForm → ChoiceForm → Result ⊤ CheckFault
 choice_body_at at packages t c = do
   end ← stmts_from (at_member at (codes "body")) 0 packages c.body (body_scope t c)
@@ -59,18 +61,20 @@ choice_from at packages t c taken = do
   _ ← choice_body_at at packages t c
   Ok more
 
--- the check of the choices of template t from the i-th on, behind others with the names `taken`: nothing, or the first fault
+-- The check of these choices of template t: nothing, or the first fault. They are the i-th, from 0, and further ones of the list at `at`, which stand
+-- behind others with the names `taken`.
 abbrev pub choices_from : Place → ℕ → Packages → TemplateForm → NameLists → List ChoiceForm → Result ⊤ CheckFault
 choices_from at i packages t taken [] = Ok tt
 choices_from at i packages t taken (c ∷ cs) = choice_from (at_item at i) packages t c taken >>= λ more. choices_from at (i + 1) packages t more cs
 
--- signatories and then observers of the template at this place are sets of parties, or the first fault
+-- nothing where the signatories and the observers of the template at this place are sets of parties; else the first fault, of signatories first
 unfoldable pub template_parties_at : Place → TemplateForm → Result ⊤ CheckFault
 template_parties_at at t = do
   _ ← expr_at (at_member at (codes "signatories")) (this_scope t) PartiesKind t.signatories
   expr_at (at_member at (codes "observers")) (this_scope t) PartiesKind t.observers
 
--- the `ensure` of the template at this place is a truth value, and its parties are sets, or the first fault
+-- nothing where the `ensure` of the template at this place is a truth value, and its signatories and observers are sets of parties; else the first
+-- fault
 unfoldable pub template_exprs_at : Place → TemplateForm → Result ⊤ CheckFault
 template_exprs_at at t = do
   _ ← expr_at (at_member at (codes "ensure")) (this_scope t) BoolKind t.ensure
@@ -84,7 +88,7 @@ template_from at packages t = do
   _ ← template_exprs_at at t
   choices_from (at_member at (codes "choices")) 0 packages t [] t.choices
 
--- the check of the templates of the list at this place from the i-th on: nothing, or the first fault
+-- the check of these templates, which are the i-th, from 0, and further ones of the list at `at`: nothing, or the first fault
 abbrev pub templates_from : Place → ℕ → Packages → List TemplateForm → Result ⊤ CheckFault
 templates_from at i packages [] = Ok tt
 templates_from at i packages (t ∷ ts) = template_from (at_item at i) packages t >>= λ _. templates_from at (i + 1) packages ts

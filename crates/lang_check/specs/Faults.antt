@@ -28,8 +28,8 @@ Err e >>= f = Err e
 abbrev pub tried : Bool → CheckKind → Place → Result ⊤ CheckFault
 tried b kind at = if b then Ok tt else Err (fault kind at)
 
--- The code stopped rightly, where the walk of the definitions found this: at that walk's first fault, or for want of memory, of which the
--- definitions say nothing.
+-- A stop of the code is right, where the walk of the definitions found this: it is at that walk's first fault, or for want of memory, of which
+-- the definitions say nothing.
 abbrev pub StopsAt : {A : Type 0} → Stop → Result A CheckFault → Type 0
 StopsAt stops.Memory found = Unit {0}
 StopsAt (stops.Fault f) found = found ≡ Err f

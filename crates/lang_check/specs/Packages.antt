@@ -23,7 +23,8 @@ package_from at before p = do
   _ ← names_from (at_member at (codes "templates")) 0 [] (template_names p.templates)
   templates_from (at_member at (codes "templates")) 0 (before ++ p ∷ []) p.templates
 
--- the check of packages that are the i-th and further of the list, after those before them: nothing, or the first fault
+-- the check of these packages (the last argument), which are the i-th, from 0, and further ones of the list, after those of `before`: nothing, or the
+-- first fault
 abbrev pub packages_from : ℕ → Packages → Packages → Result ⊤ CheckFault
 packages_from i before [] = Ok tt
 packages_from i before (p ∷ ps) = package_from (at_item [] i) before p >>= λ _. packages_from (i + 1) (before ++ p ∷ []) ps

@@ -32,7 +32,7 @@ bound_at at name kind scope = do
   _ ← tried (not (is_among name (names_in scope))) DuplicateName at
   Ok (scope ++ (name, kind) ∷ [])
 
--- the template of that name, which may be one of these packages; where there is none, UnknownTemplate at this place
+-- the template of that name in these packages; where there is none, UnknownTemplate at this place
 unfoldable pub template_at : Place → TemplateName → Packages → Result TemplateForm CheckFault
 template_at at name packages = ok_or (template_in name packages) (fault UnknownTemplate at)
 
@@ -48,24 +48,27 @@ choice_at at template name = ok_or (option_map signature_of (choice_named templa
 unfoldable pub counted_at : Place → List Kind → List FieldDecl → Result ⊤ CheckFault
 counted_at at kinds decls = tried (length kinds == length decls) WrongCount at
 
--- nothing where each of the kinds is the declared one, else WrongKind at the first that isn't; they are the i-th and further of the list at `at`
+-- Nothing where each of the kinds is the declared one, else WrongKind at the first that isn't. They are the kinds of the i-th item, from 0, and further
+-- ones of the list at `at`; that they are as many as declared is tried before.
 abbrev pub fit_from : Place → ℕ → List Kind → List FieldDecl → Result ⊤ CheckFault
 fit_from at i (k ∷ ks) (d ∷ ds) = tried (same_kind k d.kind) WrongKind (at_item at i) >>= λ _. fit_from at (i + 1) ks ds
 fit_from at i ks ds = Ok tt
 
--- the scope after `let`, which binds a name to the value of an expression; its form is a list of both
+-- the scope after `let`, which binds `name` to the value of expression e, or its first fault; the JSON form at this place is a list of the name and the
+-- expression
 unfoldable pub let_at : Place → List ℕ → ExprForm → Scope → Result Scope CheckFault
 let_at at name e scope = do
   k ← kind_at (at_item at 1) scope e
   bound_at (at_item at 0) name k scope
 
--- the scope after an assertion, which binds nothing and whose test has to be a truth value
+-- the scope after an assertion, which binds nothing; or the first fault of its test, which has to be a truth value
 unfoldable pub assert_at : Place → ExprForm → Scope → Result Scope CheckFault
 assert_at at e scope = do
   _ ← expr_at at scope BoolKind e
   Ok scope
 
--- the scope after a create of template t, whose contract is bound to `name`; or its first fault
+-- The scope after a create of template t with these fields, whose contract is bound to `name`; or its first fault. In order: its place, the packages,
+-- the bound name, the template, the fields, the scope before it.
 unfoldable pub create_at : Place → Packages → List ℕ → TemplateName → ExprForms → Scope → Result Scope CheckFault
 create_at at packages name t fields scope = do
   template ← template_at (at_member at (codes "template")) t packages
@@ -74,7 +77,8 @@ create_at at packages name t fields scope = do
   _ ← fit_from (at_member at (codes "fields")) 0 kinds template.fields
   bound_at (at_member at (codes "bind")) name ContractKind scope
 
--- the scope after an exercise of a choice of template t on the contract that e gives, whose result is bound to `name`; or its first fault
+-- The scope after an exercise of a choice of template t on the contract that e gives, whose result is bound to `name`; or its first fault. In order:
+-- its place, the packages, the bound name, the template, e, the choice's name, the arguments, the scope before it.
 unfoldable pub exercise_at : Place → Packages → List ℕ → TemplateName → ExprForm → List ℕ → ExprForms → Scope → Result Scope CheckFault
 exercise_at at packages name t e choice args scope = do
   template ← template_at (at_member at (codes "template")) t packages
@@ -86,7 +90,8 @@ exercise_at at packages name t e choice args scope = do
   _ ← fit_from (at_member at (codes "args")) 0 kinds signature.0
   bound_at (at_member at (codes "bind")) name signature.1 scope
 
--- the scope after a fetch of a contract of template t, which binds each field behind `name` and a dot; or its first fault
+-- The scope after a fetch of the contract of template t that e gives, which binds each field behind `name` and a dot; or its first fault. In order: its
+-- place, the packages, the bound name, the template, e, the scope before it.
 unfoldable pub fetch_at : Place → Packages → List ℕ → TemplateName → ExprForm → Scope → Result Scope CheckFault
 fetch_at at packages name t e scope = do
   template ← template_at (at_member at (codes "template")) t packages

@@ -35,14 +35,15 @@ in_place at k found = do
   j ← found
   tried (same_kind j k) WrongKind at
 
--- The kind `whole` of an operator with one operand, where that was found of kind j; else the first fault. `a` is what its walk found.
+-- The kind `whole` of an operator with one operand, where that was found of kind j; else the first fault. In order: the operator's place, j, whole, and
+-- `a`, which is what the walk of the operand found.
 abbrev pub one_operand : Place → Kind → Kind → Result Kind CheckFault → Result Kind CheckFault
 one_operand at j whole a = do
   _ ← in_place (at_item at 1) j a
   Ok whole
 
--- The kind `whole` of an operator with two operands, where the first was found of kind j and the second of kind k; else the first fault.
--- `a` and `b` are what their walks found.
+-- The kind `whole` of an operator with two operands, where the first was found of kind j and the second of kind k; else the first fault. In order: the
+-- operator's place, j, k, whole, and `a` and `b`, which are what the walks of the operands found.
 abbrev pub two_operands : Place → Kind → Kind → Kind → Result Kind CheckFault → Result Kind CheckFault → Result Kind CheckFault
 two_operands at j k whole a b = do
   _ ← in_place (at_item at 1) j a
@@ -55,23 +56,24 @@ whole_behind whole operands = do
   _ ← operands
   Ok whole
 
--- the kind `whole` where the walk of the first operand has no fault and the second was found of kind k, else the first fault; so the code
--- walks two operands
+-- The kind `whole` where the walk of the first operand has no fault and the second was found of kind k, else the first fault; so the code walks two
+-- operands. In order: the operator's place, k, whole, and what the walks of the first and the second operand found.
 abbrev pub second_behind : Place → Kind → Kind → Result ⊤ CheckFault → Result Kind CheckFault → Result Kind CheckFault
 second_behind at k whole first b = do
   _ ← first
   _ ← in_place (at_item at 2) k b
   Ok whole
 
--- Bool, the kind of `Equal`, where both operands were found of one kind, which the first one fixes; else the first fault
+-- Bool, the kind of `Equal` at this place, where both operands were found of one kind, which the first one fixes; else the first fault. `a` and `b` are
+-- what their walks found.
 abbrev pub alike_operands : Place → Result Kind CheckFault → Result Kind CheckFault → Result Kind CheckFault
 alike_operands at a b = do
   k ← a
   _ ← in_place (at_item at 2) k b
   Ok BoolKind
 
--- the kind of `Cond`: its test c was found a Bool, and both sides of one kind, which the first one fixes and which is the answer; else the
--- first fault
+-- The kind of `Cond` at this place: its test c was found a Bool, and its sides a and b of one kind, which the first one fixes and which is the answer;
+-- else the first fault. `c`, `a` and `b` are what their walks found.
 abbrev pub sides_alike : Place → Result Kind CheckFault → Result Kind CheckFault → Result Kind CheckFault → Result Kind CheckFault
 sides_alike at c a b = do
   _ ← in_place (at_item at 1) BoolKind c
@@ -109,7 +111,8 @@ abbrev mutual
 unfoldable pub expr_at : Place → Scope → Kind → ExprForm → Result ⊤ CheckFault
 expr_at at scope k e = in_place at k (kind_at at scope e)
 
--- the kinds `before`, and behind them those of expressions that are the i-th and further of the list at this place; or the first fault
+-- The kinds `before`, and behind them those of these expressions in this scope; or the first fault. The expressions are the i-th item, from 0, and
+-- further ones of the list at `at`.
 abbrev pub kinds_from : Place → ℕ → Scope → List Kind → ExprForms → Result (List Kind) CheckFault
 kinds_from at i scope before NoExprs = Ok before
 kinds_from at i scope before (MoreExprs e es) =

@@ -25,7 +25,7 @@ pub enum CheckKind {
 }
 
 impl CheckKind {
-    /// The kind's word, as a refusal spells it.
+    /// The kind's word, as a refusal spells it; of want of memory `Memory`.
     pub fn as_str(&self) -> &'static str
         ensures { result.now ≡ kind_name self.now }
     {

@@ -53,8 +53,8 @@ abbrev pub asserted : Bool → Ran → Ran
 asserted true rest = rest
 asserted false rest = Stopped (Err AssertFault)
 
--- How a Create, Exercise or Fetch ends, which has this step or a fault. Where a child's result is left it takes the first, of which `binds` gives the
--- names that are bound then; where none is left, the statements stop with the step or the fault.
+-- How a Create, Exercise or Fetch ends, of which the first argument is the step or its fault. Of the results of children that are left it takes the
+-- first, and `binds` gives the names that are bound then; where none is left, the statements stop with the step or the fault.
 abbrev pub taken : Result Step EvalFault → (ChildResult → Names) → List ChildResult → Ran
 taken step binds [] = Stopped step
 taken step binds (s ∷ seen) = Went (binds s) seen
@@ -74,7 +74,8 @@ then_on (Went names seen) rest = rest names seen
 abbrev pub create_step : TemplateName → Result (List Value) EvalFault → Result Step EvalFault
 create_step t fields = with_value fields (λ vs. Ok (CreateNext t vs))
 
--- The step that exercises a choice. The contract's id and the arguments are answers of evaluations; the id's fault comes first.
+-- The step that exercises the choice of this name of template `t`. The contract's id and the arguments are answers of evaluations; a fault of the id
+-- comes first, then one of the arguments.
 abbrev pub exercise_step : TemplateName → List ℕ → Result (List ℕ) EvalFault → Result (List Value) EvalFault → Result Step EvalFault
 exercise_step t choice contract args = with_value contract (λ id. with_value args (λ vs. Ok (ExerciseNext t id choice vs)))
 
@@ -104,7 +105,8 @@ abbrev mutual
 abbrev pub names_of : TemplateForm → ChoiceForm → ChoiceCall → Names
 names_of template choice call = with_args choice.params call.args (with_this template.fields call.instance.fields (with_self call.id []))
 
--- what a body does that ended so: the step or the fault at which it stopped, or after its last statement Done with the choice's result
+-- what a body does next whose statements ended so: the step or the fault at which they stopped; or, after the last one, Done with the value of the
+-- choice's result, or that value's fault
 abbrev pub ended : ChoiceForm → Ran → Result Step EvalFault
 ended choice (Stopped step) = step
 ended choice (Went names seen) = with_value (val choice.result names) (λ v. Ok (Done v))
@@ -114,14 +116,14 @@ abbrev pub next_of : TemplateForm → ChoiceForm → Packages → ChoiceCall →
 next_of template choice packages call seen = ended choice (ran_all choice.body packages (names_of template choice call) seen)
 
 -- What the body of a choice does next in a call, after what its children so far gave (`seen`), where template and choice were looked up. Where one of
--- them isn't there it is Assert, as of a choice of which nobody asks.
+-- them isn't there it is Assert; whoever asks looks first whether they are.
 abbrev pub next_in : Option TemplateForm → Option ChoiceForm → Packages → ChoiceCall → List ChildResult → Result Step EvalFault
 next_in None choice packages call seen = Err AssertFault
 next_in (Some t) None packages call seen = Err AssertFault
 next_in (Some t) (Some c) packages call seen = next_of t c packages call seen
 
--- What the body of the call's choice does next, after what its children so far gave: a step, or the first fault. Where the choice isn't
--- there, of which nobody asks, it is Assert.
+-- What the body of the call's choice does next, after what its children so far gave (`seen`): a step, or the first fault. Where the choice isn't there
+-- it is Assert; whoever asks looks first whether it is.
 unfoldable pub next : Packages → ChoiceCall → List ChildResult → Result Step EvalFault
 next packages call seen =
     next_in (template_in call.instance.template packages) (choice_in call.instance.template call.choice packages) packages call seen

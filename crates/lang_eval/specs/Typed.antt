@@ -92,7 +92,7 @@ AreNew (b ∷ bs) scope = IsNew b.0 (names_in scope) × AreNew bs scope
 abbrev pub choice_among : List ℕ → List ChoiceForm → Option ChoiceForm
 choice_among name choices = find (λ c. same_name c.name name) choices
 
--- the choice of that name that a template has as a package is written: the built-in Archive, or one of its own; None where it has none
+-- the choice of that name of a template into which Archive isn't put yet: the built-in Archive, or one of its own; None where it has none of that name
 abbrev pub choice_named : TemplateForm → List ℕ → Option ChoiceForm
 choice_named t name = if same_name archive_name name then Some (archive_of t.signatories) else choice_among name t.choices
 

@@ -30,7 +30,7 @@ impl Model for NativeList {
 }
 
 impl NativeList {
-    /// A list of no natives, with which the language is asked for every choice.
+    /// A list of no natives: each choice does then what its text in the contract language says.
     pub fn new(alloc: Global) -> NativeList {
         NativeList {
             items: Vec::new(alloc),
@@ -82,8 +82,9 @@ fn asked(
     native.next(checked, call, so_far)
 }
 
-/// What `next_step` answers: what the body of the call's choice does next after `so_far`, the results of its children in order. The first native with
-/// the template and the text of the call's choice is asked for it, and the language where there is none.
+/// What the body of the call's choice does next after `so_far`, the results of its children in order; the answer is that of `next_step`. It is asked of
+/// the first native with the template and the text of the call's choice; where there is none, the text is evaluated. An Err is the first fault, Assert
+/// where the choice isn't there, or want of memory.
 #[tactic(auto, using(crate::proofs::Natives::native_is))]
 pub fn next_by(
     alloc: Global,

@@ -199,10 +199,9 @@ fn fetch_roles(
     Ok(with_actors(parties, actors, informees)?)
 }
 
-/// The roles of an action. Informees of a Create are the stakeholders, of a consuming Exercise the stakeholders, the actors and the choice observers,
-/// of another Exercise the signatories, the actors and the choice observers, of a Fetch the signatories and the actors. Confirmers are the signatories
-/// and the actors. An Err is want of memory, or NoRoles exactly where the template or the choice isn't there, fields or arguments haven't the declared
-/// number or kinds, the signatories, observers or choice observers have no value, or nobody signs; `ensure` and controllers aren't evaluated.
+/// The roles of an action: its signatories, observers, actors, informees and confirmers. An Err is want of memory, or NoRoles exactly where the
+/// template or the choice isn't there, fields or arguments haven't the declared number or kinds, the signatories, observers or choice observers have no
+/// value, or nobody signs. `ensure` and controllers aren't evaluated.
 #[tactic(auto, using(crate::proofs::RoleLaws::roles_are))]
 pub fn roles(alloc: Global, checked: &Checked, action: &Action) -> Result<Roles, RoleFault>
     ensures { UnlessMemory RoleFault.Memory result (roles checked.now action.now) }

@@ -101,7 +101,8 @@ abbrev mutual
   operands_from hosts at depth i before (item d ds) =
       expr_of hosts (at_item at i) (depth + 1) d >>= (λ e. operands_from hosts at depth (i + 1) (exprs_join before (one_expr e)) ds)
 
--- the expression of the operator `o` with the items `ds` behind it, each operator with its number of operands: `call_of` behind its tests
+-- the expression of the operator `o` with the items `ds` behind it, any number of them for `set`, and for another operator just as many as it takes,
+-- else Shape. It is what `call_of` gives once it has tried the operator and the depth.
 abbrev pub applied_of : List Host → Place → ℕ → Operator → Items → Result ExprForm WalkFault
 applied_of hosts at depth o ds =
     by_operator o (name_after at ds) (λ b. pair_of hosts at depth b ds) (negated_of hosts at depth ds) (cond_of hosts at depth ds)

@@ -23,27 +23,29 @@ is_party_form d = has_members (codes "party" ∷ []) [] d
 unfoldable pub is_parties_form : Data → Bool
 is_parties_form d = has_members (codes "parties" ∷ []) [] d
 
--- the value Party of an object `{"party": name}`, where the name is a party of the topology; else Unknown or Shape
+-- the value Party of an object `{"party": name}`: Shape where that member is absent or no name, Unknown where nobody of the topology confirms for the
+-- party
 unfoldable pub party_value_of : List Host → Place → Data → Result Value WalkFault
 party_value_of hosts at d = do
   m ← member_of at (codes "party") d
   party ← party_of hosts (at_member at (codes "party")) m
   Ok (value.Party party)
 
--- the value Parties of an object `{"parties": [name, ..]}`, a set of parties of the topology; else Unknown or Shape
+-- the value Parties, a set, of an object `{"parties": [name, ..]}`: Shape where that member is absent or no list of names, Unknown at a party for which
+-- nobody of the topology confirms
 unfoldable pub parties_value_of : List Host → Place → Data → Result Value WalkFault
 parties_value_of hosts at d = do
   m ← member_of at (codes "parties") d
   parties ← parties_of hosts (at_member at (codes "parties")) m
   Ok (value.Parties parties)
 
--- Nothing where an expression at this depth keeps the limit on depth, else the fault Limit. The first that does not stands one deeper than the
--- limit.
+-- Nothing where an expression at this depth keeps the limit on depth, else the fault Limit. As expressions are tried before their operands, the first
+-- that breaks it stands just one deeper than the limit.
 abbrev pub within_depth : Place → ℕ → Result ⊤ WalkFault
 within_depth at depth = within_limit at EXPRESSION_DEPTH depth
 
--- The value Int of a number at a depth: NotInteger where it isn't whole or has no room in 64 bits with a sign, then Limit where it stands too deep.
--- So in all of these readers: form and spelling come first, then the depth, then the limit of a text and what stands inside.
+-- The value Int of a number at a depth: NotInteger where it isn't whole or has no room in 64 bits with a sign, then Limit where it stands too deep. All
+-- readers of this file try form and spelling first, then the depth, then the limit of a text and what stands inside.
 unfoldable pub int_at : Place → ℕ → Num → Result Value WalkFault
 int_at at depth n = do
   z ← ok_or (as_i64 n) (NotInteger at)

@@ -56,7 +56,7 @@ exercise_of hosts at d = do
   args ← exprs_in hosts at (codes "args") d
   Ok (Exercise bind template contract choice args)
 
--- the statement that fetches a contract, of the object in `{"fetch": ..}`, and binds it to the name `bind`
+-- the statement that fetches a contract, of the object in `{"fetch": ..}`, and binds its fields behind the name `bind`, as `bind.amount`
 unfoldable pub fetch_of : List Host → Place → Data → Result StmtForm WalkFault
 fetch_of hosts at d = do
   _ ← check (has_members (codes "bind" ∷ codes "template" ∷ codes "contract" ∷ []) [] d) (Shape at)

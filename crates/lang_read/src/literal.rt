@@ -44,8 +44,8 @@ pub fn read_party_value(
     Ok(Term::Party(party))
 }
 
-/// The set of parties of the value `{"parties": [name, ..]}` at the place `at`: Shape where it has no such member or that is no list of names,
-/// Unknown at a name of which nobody of the topology confirms for the party.
+/// The set of parties of the value `{"parties": [name, ..]}` at the place `at`: Shape where it has no such member or that is no list of names, Unknown
+/// at a name of no party for which somebody of the topology confirms.
 #[tactic(auto, unfolding(crate::specs::Literals::parties_value_of))]
 pub fn read_parties_value(
     alloc: Global,

@@ -37,7 +37,7 @@ fn operator_named(word: &str) -> Option<Operator>
 }
 
 impl Operator {
-    /// Whether so many items may stand behind the operator in a list that is an expression.
+    /// Whether so many items may stand behind the operator in a list that is an expression: its number of operands, or for `set` any up to 16.
     pub fn takes(self, operands: usize) -> bool
         ensures { result ≡ takes self operands }
     {

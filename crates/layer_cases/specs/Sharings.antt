@@ -17,16 +17,21 @@ use Rattle.world_play.specs.Submitting.{AreSetUp}
 use Rattle.world_play.specs.WorldOf.{IsWorldOf, world_of}
 use Rattle.world_play.specs.declared.world.World.{World}
 
--- a lawful world of this machine, over this topology and these packages, whose participants have forgotten nothing
+-- What the cases of `sharing` keep of a synchroniser between two sharings: a lawful world of the machine m, over this topology and these packages,
+-- whose participants have forgotten nothing.
 pub record CanBeShared (topology : Topology) (packages : Packages) (m : Machine) (world : World) : Type 0 where
+  -- each participant was made for this topology and these packages
   pub nodes : AreSetUp topology packages (world.nodes).items
+  -- the base of each participant is 0
   pub bases : AreBases (λ p. 0) (world.nodes).items
+  -- what the mediator has read and decided, as the world model has it
   pub state : MediatorState
+  -- the synchroniser stands for a world of the machine with this state of the mediator
   pub is : IsWorldOf m state world
   pub lawful : Lawful m (world_of state world)
   pub now : world.now ≤ 10 ^ 16
 
--- The topology is valid, and the packages and all that the rounds submit name only parties of it.
+-- What holds of an accepted script: the topology is valid, and the packages and all that the rounds submit name only parties of it.
 pub record NameHosted (setup : Setup) (rounds : List Round) : Type 0 where
   pub valid : IsValid (setup.topology)
   pub packages : AreKnown (is_hosted setup.topology) (parties_in_packages setup.checked)

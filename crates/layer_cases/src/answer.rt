@@ -5,7 +5,8 @@ use report_text::{put_action, put_host, put_names, put_number, put_path, put_tre
 use script_read::ScriptFault;
 use std::alloc::{AllocError, Global};
 
-/// The text that answers a line. Who writes it needn't say that memory was wanting: then there is no text at the end.
+/// The text that answers a line. Its methods put what they name at its end. Want of memory is noted here and told by `finish`, so that its writers
+/// needn't pass it on.
 #[derive(Drop)]
 pub(crate) struct Answer {
     alloc: Global,
@@ -22,18 +23,18 @@ impl Answer {
         }
     }
 
-    /// The text, where there was memory for all of it.
+    /// The text. Err: memory was wanting for some of it.
     pub(crate) fn finish(self) -> Result<String, AllocError> {
         let Answer { text, lacks, .. } = self;
         if lacks { Err(AllocError) } else { Ok(text) }
     }
 
-    /// Memory was wanting.
+    /// Notes that memory was wanting.
     pub(crate) fn lack(&mut self) {
         self.lacks = true;
     }
 
-    /// Memory was wanting where something was refused.
+    /// Notes that memory was wanting, where `done` is an Err.
     pub(crate) fn keep(&mut self, done: Result<(), AllocError>) {
         if done.is_err() {
             self.lacks = true;
@@ -96,13 +97,13 @@ impl Answer {
         self.keep(put);
     }
 
-    /// Puts a line for each action of trees at the end.
+    /// Puts a line for each action of trees at the end, as a report has it.
     pub(crate) fn trees(&mut self, trees: &ActionNodeList) {
         let put = put_trees(&mut self.text, 1, trees);
         self.keep(put);
     }
 
-    /// Puts a word and the word for a truth value at the end of a line.
+    /// Puts a word and `yes` or `no` at the end of a line.
     pub(crate) fn truth(&mut self, word: &str, truth: Result<bool, AllocError>) {
         match truth {
             Ok(true) => self.line(&[word, "yes"]),

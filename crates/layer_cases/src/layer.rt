@@ -14,7 +14,7 @@ pub(crate) enum Layer {
 }
 
 impl Layer {
-    /// The layer that answers the lines behind this one, where it says one.
+    /// The layer that this line says is to answer the lines behind it. None: the line is a case.
     pub(crate) fn named_by(line: &str) -> Option<Layer> {
         match line.strip_prefix("layer ")? {
             "form" => Some(Layer::Form),

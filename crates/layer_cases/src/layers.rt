@@ -9,7 +9,7 @@ use std::random::RandomSource;
 use std::sync::Wait;
 use std::thread::Threads;
 
-/// The layer that answers now, and what the cases of checks keep between their lines.
+/// The layer that answers now, None before a line has named one, and what the cases of checks keep between their lines.
 #[derive(Drop)]
 pub(crate) struct Layers {
     answering: Option<Layer>,
@@ -42,6 +42,7 @@ impl Layers {
         out.finish()
     }
 
+    /// Puts what the layer that answers now says to a case; without one the line is written again.
     fn put_answer<R: Threads + Wait + Sync + RandomSource + AllocGlobal>(
         &mut self,
         rt: &R,

@@ -36,6 +36,6 @@ abbrev pub exprs_of : List Expr → ExprForms
 exprs_of [] = NoExprs
 exprs_of (e ∷ es) = MoreExprs (expr_form e) (exprs_of es)
 
--- the same under another name: the plain data of the code's `ExprList`
+-- what contracts see of the code's `ExprList`: its expressions as plain data, in order; it is `exprs_of`
 abbrev pub list_form : List Expr → ExprForms
 list_form = exprs_of

@@ -36,10 +36,10 @@ pub record PackageForm : Type 0 where
 pub coded_choice : Coded ChoiceForm
 coded_choice = hlevel (codes, coded_expr, coded_stmts)
 
--- the code of templates, for the same purpose
+-- the code of templates, which a type that contracts see as something else has to have
 pub coded_template : Coded TemplateForm
 coded_template = hlevel (codes, coded_expr, coded_choice)
 
--- the code of packages, for the same purpose
+-- the code of packages, which a type that contracts see as something else has to have
 pub coded_package : Coded PackageForm
 coded_package = hlevel (codes, coded_template)

@@ -26,6 +26,6 @@ abbrev pub stmts_of : List Stmt → StmtForms
 stmts_of [] = NoStmts
 stmts_of (s ∷ ss) = MoreStmts (stmt_form s) (stmts_of ss)
 
--- the same under another name: the plain data of the code's `StmtList`
+-- what contracts see of the code's `StmtList`: its statements as plain data, in order; it is `stmts_of`
 abbrev pub stmt_list_form : List Stmt → StmtForms
 stmt_list_form = stmts_of

@@ -7,7 +7,7 @@ abbrev pub exprs_count : ExprForms → ℕ
 exprs_count NoExprs = 0
 exprs_count (MoreExprs e es) = suc (exprs_count es)
 
--- one list of expressions after another
+-- two lists of expressions as one: those of the first argument and then those of the second
 abbrev pub exprs_join : ExprForms → ExprForms → ExprForms
 exprs_join NoExprs more = more
 exprs_join (MoreExprs first others) more = MoreExprs first (exprs_join others more)
@@ -21,7 +21,7 @@ abbrev pub stmts_count : StmtForms → ℕ
 stmts_count NoStmts = 0
 stmts_count (MoreStmts s ss) = suc (stmts_count ss)
 
--- one list of statements after another
+-- two lists of statements as one: those of the first argument and then those of the second
 abbrev pub stmts_join : StmtForms → StmtForms → StmtForms
 stmts_join NoStmts more = more
 stmts_join (MoreStmts first others) more = MoreStmts first (stmts_join others more)

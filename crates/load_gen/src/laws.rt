@@ -6,13 +6,14 @@ ghost use Rattle.load_gen.specs.Generated.{generated};
 ghost use Rattle.load_gen.specs.declared.numbers.TheConstants.{AMOUNTS, INCREMENT, MULTIPLIER};
 ghost use Rattle.load_gen.specs.declared.topology.TheConstants.{PARTICIPANTS, REACTION_TIMEOUT, RESPONSE_TIMEOUT, SKEW};
 
-/// A generated script is accepted as one that was read is, whatever its seed. Each debt is two submissions, so
-/// half as many debts as a script may have submissions are allowed, which is as many as the command line lets through.
+/// A generated script is accepted as one that was read is (`IsAccepted`), whatever its seed, where its debts are at most half of the submissions that a
+/// script may have, since each debt is two. So many are what the command line lets through.
 pub fn generated_scripts_are_accepted()
     ensures { (seed count : ℕ) → 2 * count ≤ MOST_SUBMISSIONS → IsAccepted (generated seed count) }
 {}
 
-/// The numbers by which scripts are generated (the multiplier and the increment of Knuth's MMIX), and the times of their topology.
+/// The numbers of the generator: its multiplier and its increment (those of Knuth's MMIX) and how many amounts there are; and those of the topology:
+/// four participants, and its times in microseconds.
 pub fn numbers_are_those_of_the_format()
     ensures numbers { (MULTIPLIER ≡ 6364136223846793005) × (INCREMENT ≡ 1442695040888963407) × (AMOUNTS ≡ 1000) }
     ensures topology { (PARTICIPANTS ≡ 4) × (RESPONSE_TIMEOUT ≡ 30000000) × (REACTION_TIMEOUT ≡ 30000000) × (SKEW ≡ 60000000) }

@@ -7,7 +7,8 @@ use lang_eval::Checked;
 use ledger_terms::PackageList;
 use std::alloc::{AllocError, Global};
 
-/// The packages of a generated script, which need no check: Iou, behind what is built in.
+/// The packages of a generated script, Iou behind what is built in, as checked ones: that they are so is proved, so no check is made. The error is want
+/// of memory.
 pub fn generated_packages(alloc: Global) -> Result<Checked, AllocError>
     ensures { IfOk result (λ checked. checked ≡ packages) }
 {

@@ -93,7 +93,8 @@ pub fn actions_of_logs_are_few()
         → length (node_active (framed_reading topology packages) p (inbox (framed_reading topology packages) p log) n) ≤ MOST_OPENED_ACTIONS * n }
 {}
 
-/// What a participant knows of created contracts over a log of framed requests has a spelling, so that it can be written down.
+/// The rows of the contracts that a participant knows as created or as active below place n of a log of framed requests have a spelling, so that they
+/// can be written down.
 pub fn rows_of_logs_are_spellable()
     ensures created { (topology : Topology) (packages : Packages) (log : List Entry) (p : ParticipantId) (n : ℕ) → AreFramed topology log
         → All IsSpellableRow (created_below (framed_reading topology packages) (inbox (framed_reading topology packages) p log) n) }

@@ -12,14 +12,14 @@ ghost use Rattle.log_dump.specs.Reading.{block_at, entry_at, log_at};
 ghost use Rattle.log_dump.specs.Spellable.{IsSpellableEntry, IsSpellableLog};
 ghost use Rattle.log_dump.specs.Spelling.{spell_block, spell_entry, spell_log};
 
-/// Each entry and each log has one spelling: the bytes that are read as it are its spelling, which is read as it.
+/// Each block of bytes, each entry and each log in range has one spelling: the bytes that are read as it are its spelling, which is read as it.
 pub fn one_spelling()
     ensures blocks { HasOneSpelling spell_block IsBlock block_at }
     ensures entries { (most : ℕ) → HasOneSpelling spell_entry (IsEntry most) (entry_at most) }
     ensures logs { (most : ℕ) → HasOneSpelling spell_log (IsLog most) (log_at most) }
 {}
 
-/// What is in range, as all that is read is, has room in a spelling and so can be encoded again.
+/// An entry or a log in range, as all are that a reader gives, has room in a spelling and so can be encoded again.
 pub fn in_range_is_spellable()
     ensures entries { (most : ℕ) → IsEnoughFor (IsEntry most) IsSpellableEntry }
     ensures logs { (most : ℕ) → IsEnoughFor (IsLog most) IsSpellableLog }

@@ -26,7 +26,8 @@ MOST_OF_BYTE = 255
 abbrev pub MOST_OF_TWO_BYTES : ℕ
 MOST_OF_TWO_BYTES = 65535
 
--- The reading of a path: a count of one byte and the steps. There are at most 16, since no view lies deeper than a transaction has levels.
+-- The reading of a path: a count of one byte and the steps, two bytes each. There are at most 16, since no view lies deeper than a transaction has
+-- levels.
 unfoldable pub path_at : Reading (List ℕ)
 path_at = counted_at (small_count_at MOST_ACTION_DEPTH) any_item (number_at w16)
 
@@ -58,7 +59,7 @@ reason_at bytes = do
 abbrev pub RejectParts : Type 0
 RejectParts = Reason × ℕ
 
--- a local verdict made of these parts
+-- the rejection, as a local verdict, that has these parts
 abbrev pub reject_of : RejectParts → LocalVerdict
 reject_of parts = Reject parts.0 parts.1
 
@@ -103,7 +104,7 @@ response_of parts = record { from = parts.0.0; request = parts.0.1; verdicts = p
 unfoldable pub response_at : (most : ℕ) → Reading Response
 response_at most = seen_at response_of (both_at (both_at (small_count_at most) (number_at w64)) view_verdicts_at)
 
--- whether participant p is greater than the last of these, which ascend; true where there are none
+-- whether participant p is greater than the last of the participants in the list, which ascend; true where the list is empty
 abbrev pub is_past : List ℕ → ℕ → Bool
 is_past [] p = true
 is_past (q ∷ []) p = nat_lt q p
@@ -117,7 +118,7 @@ participants_at most = counted_at (small_count_at MOST_OF_BYTE) is_past (small_c
 abbrev pub RejectedParts : Type 0
 RejectedParts = (ℕ × List ℕ) × Reason
 
--- a decision made of these parts
+-- the rejection, as a decision of the mediator, that has these parts
 abbrev pub rejected_of : RejectedParts → Decision
 rejected_of parts = Rejected parts.0.0 parts.0.1 parts.1
 

@@ -59,7 +59,7 @@ spell_view_verdicts vs = to_be_bytes w16 (length vs) ++ flat_map spell_view_verd
 abbrev pub spell_participant : ℕ → List ℕ
 spell_participant p = p ∷ []
 
--- the bytes of a response: its participant, eight bytes for the place of the request, and the verdicts
+-- the bytes of a response: one for its participant, eight for the place of the request, and those of the verdicts
 abbrev pub spell_response : Response → List ℕ
 spell_response r = spell_participant r.from ++ (to_be_bytes w64 r.request ++ spell_view_verdicts r.verdicts)
 

@@ -13,7 +13,8 @@ use ledger_terms::{Bytes, ParticipantId, ParticipantIdList, Path};
 use std::alloc::AllocError;
 use wire_form::encode_u64;
 
-/// Puts the spelling of a path at the end of `out`. The error is want of memory.
+/// Puts the spelling of a path, which has at most 16 steps, at the end of `out`: a byte of count, and two bytes for each step. The error is want of
+/// memory.
 pub fn encode_path(path: &Path, out: &mut Bytes) -> Result<(), AllocError>
     requires { IsSpellablePath path.now }
     ensures { OnOk result (out.new ≡ out.old ++ spell_path path.now) }

@@ -6,21 +6,21 @@ ghost use Rattle.message_bytes.specs.Reading.{path_at, response_at, verdict_at};
 ghost use Rattle.message_bytes.specs.Spellable.{IsSpellablePath, IsSpellableResponse, IsSpellableVerdict};
 ghost use Rattle.message_bytes.specs.Spelling.{spell_path, spell_response, spell_verdict};
 
-/// No spelling of a value in range begins that of another, so bytes that begin with a spelling begin with only one.
+/// No spelling of a path, a response or a verdict in range begins that of another one, so bytes that begin with such a spelling begin with only one.
 pub fn none_begins_another()
     ensures paths { NoneBeginsAnother spell_path IsPath }
     ensures responses { (most : ℕ) → NoneBeginsAnother spell_response (IsResponse most) }
     ensures verdicts { (most : ℕ) → NoneBeginsAnother spell_verdict (IsVerdict most) }
 {}
 
-/// Each value has one spelling: the bytes that are read as it are its spelling, which is read as it.
+/// Each path, response and verdict in range has one spelling: bytes that are read as it are its spelling, which is read as it.
 pub fn one_spelling()
     ensures paths { HasOneSpelling spell_path IsPath path_at }
     ensures responses { (most : ℕ) → HasOneSpelling spell_response (IsResponse most) (response_at most) }
     ensures verdicts { (most : ℕ) → HasOneSpelling spell_verdict (IsVerdict most) (verdict_at most) }
 {}
 
-/// What is in range, as all that a decoder gives is, has room in a spelling and so can be encoded again.
+/// A path, a response or a verdict in range, as all are that a decoder gives, has room in a spelling and so can be encoded again.
 pub fn in_range_is_spellable()
     ensures paths { IsEnoughFor IsPath IsSpellablePath }
     ensures responses { (most : ℕ) → IsEnoughFor (IsResponse most) IsSpellableResponse }

@@ -15,7 +15,8 @@ use ledger_terms::{ParticipantId, ParticipantIdList, Path};
 use std::alloc::Global;
 use wire_form::{Reader, ReaderFault};
 
-/// Reads a path, a count of at most 16 and its steps; the fault Left at the first field that is no part of one.
+/// Reads a path, a count of at most 16 and its steps. The error is Left, with how many bytes are left at the first field that can't be read, or want of
+/// memory.
 #[tactic(auto, unfolding(crate::specs::Reading::path_at))]
 pub fn read_path(reader: &mut Reader<'_>, alloc: Global) -> Result<Path, ReaderFault>
     ensures { Gives (λ x. (x, reader.new)) result (path_at reader.old) }
@@ -156,7 +157,8 @@ fn read_next_verdict(
     Ok(())
 }
 
-/// Reads a response of a participant up to `most`; the fault Left at the first field that is no part of one.
+/// Reads a response of a participant up to `most`. The error is Left, with how many bytes are left at the first field that can't be read, or want of
+/// memory.
 #[tactic(auto, unfolding(crate::specs::Reading::response_at))]
 pub fn read_response(
     reader: &mut Reader<'_>,
@@ -265,7 +267,8 @@ fn read_tagged_decision(
     }
 }
 
-/// Reads a mediator's verdict, which names participants up to `most`; the fault Left at the first field that is no part of one.
+/// Reads a mediator's verdict, which names participants up to `most`. The error is Left, with how many bytes are left at the first field that can't be
+/// read, or want of memory.
 #[tactic(auto, unfolding(crate::specs::Reading::verdict_at))]
 pub fn read_verdict(
     reader: &mut Reader<'_>,

@@ -27,7 +27,8 @@ wanted_request topology packages = prepare_over topology packages (offered_in to
 abbrev pub machine_of : Topology → Packages → (capacity : ℕ) → Machine
 machine_of topology packages capacity = machine_over topology packages capacity (offered_in topology packages)
 
--- Why a submission wants no request over its participant's items at a time, where it wants none.
+-- Why a submission wants no request: a function from the submission, the items of its participant and the time to the fault. Where the submission wants
+-- a request it gives Memory, which says nothing.
 abbrev pub why_of : Topology → Packages → Why SubmitFault
 why_of topology packages = why_over topology packages (offered_in topology packages)
 

@@ -86,7 +86,8 @@ pub fn pruned_participants_answer_alike()
         → AnswersAlike (reading_of p) (params_of p) p.me whole (items_of p) p.base p.start }
 {}
 
-/// What is reported of a participant that restarted is what it would know with the whole inbox, without what stands before its base.
+/// What is reported of a participant that restarted is what it would know with the whole inbox, without what stands before its base. Of one that didn't
+/// restart, and has the base 0, it is all of that.
 pub fn restarted_participants_know_the_rest()
     ensures { (whole : List Item) (p : Participant) (restarted : Bool)
         → IsPrunedTo whole p
@@ -105,10 +106,9 @@ pub fn pruned_participants_are_pruned_again()
         → IsPrunedTo whole (pruned_at b next p) }
 {}
 
-/// A participant that begins again from another one's state is pruned to the same base as this other one, and has read what it has read. So it
-/// answers as the other one does, and whatever is asked of places from the base on as one with the whole inbox does. Where the other one had
-/// nothing unfinished, the new one claims and sends next what the other would with the whole inbox. A participant that puts back a job which it
-/// hasn't finished has the same state as before.
+/// A participant that begins again from another one's state has that one's base and items. So it answers as that one does and, of places from the base
+/// on, as one with the whole inbox. Where the other had nothing unfinished, it claims and sends next what the other would with the whole inbox. A
+/// participant that puts back a job which it hasn't finished has the same state as before.
 pub fn restarted_participants_are_pruned()
     ensures pruned { (whole : List Item) (p : Participant) (state : State)
         → IsPrunedTo whole p
@@ -141,9 +141,9 @@ pub fn restarted_participants_are_pruned()
         → IsStateOf (with_state p (put_back p.state k)) state }
 {}
 
-/// The state of a participant that has read a genuine log, and is pruned to its base, is lawful. A lawful state that is pruned is lawful again, and a
-/// participant may begin again from each lawful state. For `prune` it says besides that this participant may stand for the state's own, but for the
-/// responses, which the pruned state takes from the state.
+/// The state of a participant that has read a genuine log, and is pruned to its base, is lawful. So is a lawful state that is pruned, and a participant
+/// may begin again from each lawful state. The clauses `responses` and `same` are for `prune` of snapshot_store: who begins again from a state may
+/// stand for the state's participant, but for the responses, which the pruned state takes from the state.
 pub fn lawful_states_may_begin()
     ensures lawful { (p : Participant) (log : List Entry) (state : State)
         → length log < 2 ^ 63

@@ -307,7 +307,8 @@ impl<'s> Node<'s> {
         self.inbox.withheld()
     }
 
-    /// What it kept, when nobody asks it any more.
+    /// Takes the participant apart, when nobody asks it any more: its inbox and its duties, without what it borrows. A program that ends forgets these
+    /// remains, since giving them back piece by piece would take long.
     pub fn into_remains(self) -> NodeRemains {
         let Node { inbox, duties, .. } = self;
         NodeRemains::new(inbox.into_remains(), duties)

@@ -12,8 +12,8 @@ use Rattle.node_inbox.specs.declared.beginning.Beginning.{Beginning}
 abbrev pub start_of : Beginning → Start
 start_of beginning = record { active = beginning.active; gone = beginning.gone }
 
--- An inbox may begin at this base with this start. The base is no later than times allow, since each entry is later than the one before it. The
--- contracts that were active there were created below it, in this order, each once, and none of them is gone. The ids of the gone contracts ascend.
+-- An inbox may begin at this base with this start. The base is below 2^63 and no later than times allow, since each entry is later than the one before.
+-- The contracts active there were created below it, in this order, each once, and none is gone. The gone ids ascend.
 pub record IsBeginning (base base_time : ℕ) (start : Start) : Type 0 where
   pub few : base < 2 ^ 63
   pub early : base ≤ base_time + 1

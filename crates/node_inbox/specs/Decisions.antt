@@ -3,9 +3,9 @@ use Rattle.std.specs.Prelude.{ℕ, suc, List, [], ◌∷◌, if◌then◌else◌
 use Rattle.canton_model.specs.Inbox.{Item, verdict_in}
 use Rattle.canton_model.specs.Timeline.{decision_on}
 
--- The place at which the request at place m, with decision time `time`, is decided, by items the first of which stands at place k and before which
--- nothing decides it. It is that of the first item that comes after the decision time, or the one behind the first verdict on the request. Where
--- there is neither, it is the place behind the last item.
+-- The place at which the request at place m, with decision time `time`, is decided by items that begin at place k, where nothing before decides it. It
+-- is the place of the first item after the decision time, or the one behind the first verdict on the request, whichever comes first; where there is
+-- neither, the one behind the last item.
 abbrev pub decided_from : (time m k : ℕ) → List Item → ℕ
 decided_from time m k [] = k
 decided_from time m k (item ∷ rest) =

@@ -12,8 +12,8 @@ use Rattle.pruned_inbox.specs.Start.{Start, no_start, verdicts_kept}
 use Rattle.lang_eval.specs.Found.{Packages}
 use Rattle.framed_form.specs.FramedReading.{framed_reading}
 
--- What contracts see of an inbox: the participants with their times, the packages, which participant it is of, its base with the time of the entry
--- before that, in microseconds, what the inbox left at its base, and its items. These are silent below the base, and from there on what was read.
+-- What contracts see of an inbox: the topology, the packages, the participant that it is of, its base with the time of the entry before that, in
+-- microseconds, what the inbox left at its base, and its items. These are silent below the base, and from there on what was read.
 pub record InboxState : Type 0 where
   pub topology : Topology
   pub packages : Packages

@@ -36,8 +36,8 @@ pub record Came (topology : Topology) (packages : Packages) (me : ParticipantId)
   pub envelope_is : kept.envelope ≡ envelope_to me request.envelopes
   pub offer_is : as_offered kept.offer ≡ offered topology me request
 
--- What is kept of the request at place k, where these items end with it: such a request came, the changes are those among the authentic opened
--- actions, and there is a fact on the contract of each opened action, which says what the start and the items say of it at that place.
+-- What is kept of the request at place k, where these items end with it, is right: the request came (`Came`), the changes are those among the authentic
+-- opened actions, and there is a fact on the contract of each opened action, which says what the start and the items say of it at that place.
 pub record IsKept (topology : Topology) (packages : Packages) (me : ParticipantId) (start : Start) (items : List Item) (k : ℕ)
     (kept : KeptRequest) : Type 0 where
   pub came : Came topology packages me kept
@@ -79,7 +79,8 @@ request_in_item (Some item) = request_in item.content
 abbrev pub kept_at : List KeptItem → ℕ → Option KeptRequest
 kept_at items k = request_in_item (slice_get items k)
 
--- An inbox begins at a base that isn't behind its end, from a start that stands below the base.
+-- The inbox of these items begins at the base with this start: the base isn't behind its end, the start's contracts were created below the base in
+-- order, and the inbox has no request below it.
 pub record BeginsAt (base : ℕ) (start : Start) (items : List Item) : Type 0 where
   pub within : base ≤ length items
   pub stands : StandsBelow base start items

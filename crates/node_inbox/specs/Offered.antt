@@ -15,7 +15,8 @@ use Rattle.node_inbox.specs.Listed.{is_offered}
 abbrev pub offered : Reading → ParticipantId → List StoreRow → List ActiveRow
 offered reading p rows = filter (is_offered reading p) (active_rows rows)
 
--- No contract is created twice by the approved requests of these items, one that the start left active among them, and none that is gone is created.
+-- No contract is created twice by the approved requests of these items, where those that the start left active count as created once, and none that is
+-- gone is created.
 pub record AreOnce (reading : Reading) (start : Start) (items : List Item) : Type 0 where
   pub once : CreatedOnce (changes_since reading start items)
   pub none_gone : NoneGone start (changes_since reading start items)

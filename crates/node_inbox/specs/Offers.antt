@@ -21,7 +21,7 @@ as_offered Mismatch = opened.Mismatch
 as_offered Missing = opened.Missing
 as_offered (Open tree) = opened.Open tree
 
--- What an envelope offers, as the definitions of the protocol have it, of what is kept of it.
+-- What an envelope offers, as the protocol's definitions have it, made of what is kept of it.
 abbrev pub model_offer : KeptOffer → Offer
 model_offer offer = offer_of (as_offered offer)
 

@@ -78,7 +78,8 @@ IsCame topology packages me items (raw.Request sender command root seen confirme
 IsCame topology packages me items (raw.Verdict verdict) = is_some (notice_at items verdict.request) ≡ true
 IsCame topology packages me items raw.Nothing = Unit {0}
 
--- Each of these raw items may come behind those before it. They are the items from the base on of an inbox of participant `me`, whose items are `all`.
+-- Each of these raw items may come to participant `me` behind the items before it: item k behind the first base + k items of the inbox `all`. That they
+-- are the items of `all` from the base on isn't said here.
 abbrev pub AreCame : Topology → Packages → ParticipantId → (base : ℕ) → List model.Item → List Item → Type 0
 AreCame topology packages me base all items =
     (k : ℕ) (item : Item) → slice_get items k ≡ Some item → IsCame topology packages me (take (base + k) all) item.what

@@ -295,8 +295,8 @@ impl<'s> Inbox<'s> {
         Ok(())
     }
 
-    /// Reads the next entry of the log. Where it brings a request `outline` is what the request's mediator's bytes tell. Takes all memory before it
-    /// changes anything, so an error leaves the inbox as it was.
+    /// Reads the next entry of the log. Where it brings a request `outline` is what the request's mediator's bytes tell; else it isn't looked at. Takes
+    /// all memory before it changes anything, so an error leaves the inbox as it was.
     pub fn read(&mut self, entry: &Entry, outline: Option<&Outline>) -> Result<(), AllocError>
         requires few { length self.old.items < 2 ^ 63 }
         requires rises { last_time self.old.items < entry.now.time }

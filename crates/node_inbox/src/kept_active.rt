@@ -15,13 +15,14 @@ pub struct KeptActive {
 }
 
 impl KeptActive {
-    /// Whether a place is far behind that of these contracts: to go through the entries between takes longer than to copy the contracts.
+    /// Whether a place comes so long after that of these contracts that to go through the entries between takes longer than to copy the contracts.
     pub fn is_far(&self, place: u64) -> bool {
         is_far(self.place, self.rows.len(), place)
     }
 }
 
-/// Whether a place is far behind an earlier one: to go through the entries between takes longer than to copy so many contracts.
+/// Whether `place` comes so long after the place `earlier` that to go through the entries between takes longer than to copy `count` contracts. It is
+/// false where `place` comes before.
 pub fn is_far(earlier: u64, count: usize, place: u64) -> bool {
     place.saturating_sub(earlier) / FAR > count as u64
 }

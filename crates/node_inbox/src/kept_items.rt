@@ -78,7 +78,7 @@ impl KeptItems {
         self.base + self.items.len() as u64
     }
 
-    /// What the entry at a place brought, and none where it wasn't read. Below the base it is nothing.
+    /// What the entry at a place brought: `Nothing` below the base, and None where the entry wasn't read.
     pub fn content(&self, place: u64) -> Option<&KeptContent>
         ensures { option_copied result ≡ content_in (slice_get self.now.items place) }
     {

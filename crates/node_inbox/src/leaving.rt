@@ -116,7 +116,7 @@ fn put_row(live: &LiveRows<'_>, at: usize, ids: &mut Vec<Hash>) -> Result<(), Al
     }
 }
 
-/// The ids in `gone` and those of the consumed contracts among the rows, ascending, each once.
+/// The ids in `gone`, and put among them those of the consumed contracts of the rows: ascending, each once, where `gone` is so.
 pub fn gone_in(alloc: Global, gone: &[Hash], live: &LiveRows<'_>) -> Result<HashList, AllocError>
     ensures { IfOk result (λ ids. ids ≡ with_parties (consumed_in live.now) gone.now) }
 {

@@ -18,7 +18,8 @@ pub fn is_decided(outcome: Option<Outcome>) -> bool
     }
 }
 
-/// Whether an outcome is that of a received request on which no verdict came: it is undecided, or it expired.
+/// Whether an outcome is that of a received request on which no verdict came: it is undecided, or it expired. Of None, where no request was received,
+/// it is false.
 pub fn is_without_verdict(outcome: Option<Outcome>) -> bool
     ensures { result ≡ is_without_verdict outcome }
 {

@@ -76,8 +76,8 @@ fn push_taken(
     }
 }
 
-/// The commits of the approved requests below the place `end`, as they are opened, made of the items themselves: actions that nobody else looks at
-/// are moved and not copied.
+/// The commits of the approved requests below the place `end`, as they are opened, without those of which nothing is. They are made of the items
+/// themselves: actions that nobody else looks at are moved and not copied.
 pub fn into_applied(
     setup: &Setup,
     items: KeptItems,

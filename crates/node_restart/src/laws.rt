@@ -13,8 +13,8 @@ ghost use Rattle.node_restart.specs.Short.{HasReadShort};
 ghost use Rattle.node_state.specs.declared.node_state.NodeState.{NodeState as State};
 ghost use Rattle.snapshot_store.specs.Spellable.{IsSpellableState};
 
-/// The state of a participant that has read a short genuine log, pruned or not, has a spelling: what framed requests tell, show and open is
-/// never more than it has room for.
+/// The state of a participant that has read a genuine log of fewer than 2^15 entries, pruned or not, has a spelling: what framed requests tell, show
+/// and open is never more than a spelling has room for.
 pub fn states_are_spellable()
     ensures { (p : Participant) (log : List Entry) (state : State) → HasReadShort p log state → IsSpellableState state }
 {}

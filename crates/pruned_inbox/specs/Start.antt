@@ -72,14 +72,15 @@ status_since start since c =
 abbrev pub status_kept : Reading → Start → List Item → ℕ → Hash → Status
 status_kept reading start kept k c = status_since start (past_in reading kept k) c
 
--- The verdict on a view that is opened, ViewMissing where none was found (None). The two functions give what participant p knows of a contract's
--- status and whether it is locked; `time` is that of the request's entry.
+-- The local verdict on a view that was found by its path, ViewMissing where none was (None). The two functions give what participant p knows of a
+-- contract's status and whether it is locked; `time` is that of the request's entry.
 abbrev pub verdict_if_found : Reading → Params → ParticipantId → (sender : ParticipantId) → (time : ℕ) → (Hash → Status) → (Hash → Bool)
     → Shown → Option OpenedView → LocalVerdict
 verdict_if_found reading params p sender time status locked shown None = Reject ViewMissing 0
 verdict_if_found reading params p sender time status locked shown (Some view) = verdict_by reading params p sender time shown view status locked
 
--- The verdict of participant p on the view with this path, by what the envelope gives; the arguments before the path are as in `verdict_if_found`.
+-- The local verdict of participant p on the view with this path, by what the envelope gives: a Mismatch is RootMismatch, and Missing is ViewMissing.
+-- The two functions give p's status of a contract and whether it is locked; `time` is that of the request's entry.
 abbrev pub verdict_in_offer : Reading → Params → ParticipantId → (sender : ParticipantId) → (time : ℕ) → (Hash → Status) → (Hash → Bool)
     → Path → Offer → LocalVerdict
 verdict_in_offer reading params p sender time status locked path Mismatch = Reject RootMismatch 0
@@ -87,8 +88,8 @@ verdict_in_offer reading params p sender time status locked path Missing = Rejec
 verdict_in_offer reading params p sender time status locked path (Open shown) =
     verdict_if_found reading params p sender time status locked shown (view_at path shown.views)
 
--- The verdicts on the views of a request that participant p confirms, by what it knows of contracts, in order of path; none where there is no notice
--- of the request. `time` is that of the request's entry.
+-- The verdicts on the views of a request that participant p confirms, in order of path; none where there is no notice of the request. The two functions
+-- give p's status of a contract and whether it is locked; `time` is that of the request's entry.
 abbrev pub verdicts_by : Reading → Params → ParticipantId → (time : ℕ) → (Hash → Status) → (Hash → Bool) → Option Notice → List ViewVerdict
 verdicts_by reading params p time status locked None = []
 verdicts_by reading params p time status locked (Some notice) =
@@ -109,7 +110,7 @@ is_left_since start since row = not (is_gone start row.known.id) && is_left_by s
 abbrev pub is_active_since : Reading → ParticipantId → Start → (since : List Act) → ActiveRow → Bool
 is_active_since reading p start since row = not (is_gone start row.known.id) && is_active_row reading p since row
 
--- the rows of the contracts that were active at the start and of those that were created below place n since, each as it came first
+-- the rows of the contracts that were active at the start and of those that were created below place n since, the first row of each contract
 abbrev pub rows_since : Reading → Start → List Item → ℕ → List ActiveRow
 rows_since reading start kept n = first_of_each (start.active ++ created_below reading kept n)
 
@@ -118,7 +119,8 @@ abbrev pub active_kept : Reading → ParticipantId → Start → List Item → �
 active_kept reading p start kept n =
     filter (is_active_since reading p start (authentic_below reading kept n)) (rows_since reading start kept n)
 
--- the rows that start and items since leave at place n, with a hosted stakeholder or without one
+-- the rows of the contracts that aren't gone, were active at the start or were created below place n since, and that no action kept below n consumes,
+-- with a hosted stakeholder or without one
 abbrev pub left_kept : Reading → Start → List Item → ℕ → List ActiveRow
 left_kept reading start kept n = filter (is_left_since start (authentic_below reading kept n)) (rows_since reading start kept n)
 

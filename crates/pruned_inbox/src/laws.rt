@@ -40,7 +40,8 @@ pub fn silent_fronts_answer_alike()
         → AnswersAlike reading params p items (silent_front b (last_time (take b items)) ++ drop b items) b start }
 {}
 
-/// Over every genuine log, a participant p that was pruned to a base b when it had read n entries, and then read on to `later`, answers alike.
+/// Over every genuine log, a participant p that was pruned to a base b when it had read n entries, and then read on to `later`, answers whatever is
+/// asked of places from b on as one that keeps all of its inbox.
 pub fn restarted_participants_answer_alike()
     ensures { (reading : Reading) (params : Params) (p : ParticipantId) (log : List Entry) (b n later : ℕ) (start : Start)
         → Genuine reading params log
@@ -114,8 +115,8 @@ pub fn pruned_inboxes_are_pruned_again()
         → Base.base params (silent_front b (last_time (take b items)) ++ drop b items) ≡ Base.base params items }
 {}
 
-/// The times of the forgotten items may be any others (`times`) that are before any request that is kept can be decided, as long as the time before
-/// the base is the same: the answers are alike all the same.
+/// The times of the forgotten items may be any others (`times`) that are, as the old ones, no later than the decision time of any request that is kept,
+/// as long as the time before the base is the same: the answers are alike all the same.
 pub fn times_below_the_base_make_no_difference()
     ensures { (reading : Reading) (params : Params) (p : ParticipantId) (whole kept : List Item) (b : ℕ) (start : Start) (times : List ℕ)
         → length times ≡ b

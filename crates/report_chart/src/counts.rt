@@ -16,7 +16,7 @@ pub struct Counts {
 }
 
 impl Counts {
-    /// Counts what a report has.
+    /// Counts the entries, the requests by their outcomes, and the refused submissions of a report.
     pub fn of(report: &Report<'_>) -> Counts {
         Counts {
             entries: report.entries.len(),

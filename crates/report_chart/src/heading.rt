@@ -116,7 +116,7 @@ fn draw_name(sheet: &mut Sheet, x: u32, name: &str, width: u32) -> Result<(), Al
     sheet.words(&label, name, letters)
 }
 
-/// The label of a text that begins at a point, in the tone of what is said.
+/// The label of a text that begins at a point, in the tone of main text.
 pub fn label(at: Point, font: Font) -> Label {
     Label {
         at,
@@ -126,7 +126,7 @@ pub fn label(at: Point, font: Font) -> Label {
     }
 }
 
-/// The label of a text that begins at a point, in the tone of what is less important.
+/// The label of a text that begins at a point, in the tone of less important text.
 pub fn quiet(at: Point, font: Font) -> Label {
     Label {
         at,

@@ -102,7 +102,7 @@ fn listed(count: usize, most: usize) -> u32 {
     }
 }
 
-/// How high the rows of so many entries are together, in units. No more than 500 are drawn, and counted.
+/// How high the rows of so many entries are together, in units. Only the first 500 entries have rows.
 pub fn rows_height(entries: usize) -> u32 {
     let rows = entries.min(MOST_ROWS) as u32;
     rows.saturating_mul(ROW_HEIGHT)

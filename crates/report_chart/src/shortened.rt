@@ -1,15 +1,15 @@
 //! Texts that have to fit.
 use std::alloc::{AllocError, Global};
 
-/// The first letter of the scripts whose letters are twice as wide.
+/// From this character on letters are taken to be twice as wide as Latin ones.
 const FIRST_WIDE: char = '\u{1100}';
 
-/// How many letters wide a character is: two in the scripts with wide letters, else one.
+/// How many letters wide a character is: one, or two from `FIRST_WIDE` on.
 fn width_of(letter: char) -> u32 {
     if letter < FIRST_WIDE { 1 } else { 2 }
 }
 
-/// Whether a text is at most `most` letters wide; a character of the scripts with wide letters counts as two.
+/// Whether a text is at most `most` letters wide; a character from U+1100 on counts as two.
 pub fn fits(text: &str, most: u32) -> bool {
     let mut width = 0u32;
     for letter in text.chars() {

@@ -21,7 +21,7 @@ impl LaneSet {
         }
     }
 
-    /// The first `count` participants, up to eight.
+    /// The set of the first `count` participants; of more than eight it has eight.
     pub fn first(count: usize) -> LaneSet {
         let mut lanes = LaneSet::none();
         for at in 0..count {

@@ -29,7 +29,7 @@ fn place_for(places: &Vec<u64>, place: u64) -> usize
     count_below(places.as_slice(), place)
 }
 
-/// Puts one more place where it belongs. Room was made for it, so it takes no memory.
+/// Puts one more place into rising places, in front of the first that isn't smaller. Room was made for it, so it takes no memory.
 pub fn insert_place(places: &mut Vec<u64>, place: u64)
     requires room { vec_len places.old < vec_capacity places.old }
     requires rising { Rising places.old.items }
@@ -59,7 +59,7 @@ fn place_of(places: &Vec<u64>, place: u64) -> Option<usize>
     None
 }
 
-/// Takes a place out. Nothing changes where it isn't there.
+/// Takes a place out of rising places, the first one where it stands there twice. Nothing changes where it isn't there.
 pub fn remove_place(places: &mut Vec<u64>, place: u64)
     requires { Rising places.old.items }
     ensures places { places.new.items ≡ without place places.old.items }
@@ -81,7 +81,8 @@ pub fn first_or(places: &Vec<u64>, cursor: u64) -> u64
     }
 }
 
-/// Puts one more place where it belongs, if it is wanted. Room was made for it, so it takes no memory.
+/// Puts one more place into rising places, in front of the first that isn't smaller, where `wanted` is true; else nothing changes. Room was made for
+/// it, so it takes no memory.
 pub fn insert_if(places: &mut Vec<u64>, wanted: bool, place: u64)
     requires room { vec_len places.old < vec_capacity places.old }
     requires rising { Rising places.old.items }
@@ -93,7 +94,8 @@ pub fn insert_if(places: &mut Vec<u64>, wanted: bool, place: u64)
     }
 }
 
-/// Takes a place out, if `wanted` says so. Nothing changes where it isn't there.
+/// Takes a place out of rising places where `wanted` is true, the first one where it stands there twice. Else, or where it isn't there, nothing
+/// changes.
 pub fn remove_if(places: &mut Vec<u64>, wanted: bool, place: u64)
     requires { Rising places.old.items }
     ensures places { places.new.items ≡ drop_if wanted place places.old.items }

@@ -196,7 +196,7 @@ impl Tracker {
         self.cursor
     }
 
-    /// The clean place: the least place of an undecided request, and the cursor where there is none.
+    /// The clean place: the least place of an undecided request, and the cursor where there is none, or where the cursor is less.
     pub fn clean(&self) -> u64
         ensures { result ≡ clean_of self.now.pairs self.now.cursor }
     {
@@ -230,7 +230,8 @@ impl Tracker {
         self.clean = first_or(&self.undecided, self.cursor);
     }
 
-    /// Tracks one more request, undecided, which stands at `place` and has the decision time `decision`, in microseconds.
+    /// Tracks one more request, undecided, which stands at `place` and has the decision time `decision`, in microseconds. After want of memory all is
+    /// as before.
     pub fn begin(&mut self, place: u64, decision: u64) -> Result<(), AllocError>
         requires { tracked_at self.old.pairs place ≡ None }
         ensures ok { OnOk result (self.new.pairs ≡ self.old.pairs ++ (place, record { decision = decision; outcome = Undecided }) ∷ []) }

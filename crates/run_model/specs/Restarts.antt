@@ -16,8 +16,8 @@ pub record RoundBegin : Type 0 where
   -- the participants that restart there
   pub restarts : List ParticipantId
 
--- The begins of rounds, by the list of who restarts in each and by the ends of their parts, two a round. The first round begins at `at`, and each
--- other one where the second part of the one before ends. Without ends for a round it is still there, and no round after it.
+-- The begins of rounds, by the list of who restarts in each and by the ends of their parts, two a round. The first round begins at `at`, and each other
+-- one where the second part of the one before ends. A round without two ends is the last that is listed.
 abbrev pub begins_of : (at : ℕ) → List (List ParticipantId) → (ends : List ℕ) → List RoundBegin
 begins_of at [] ends = []
 begins_of at (restarts ∷ more) [] = record { at = at; restarts = restarts } ∷ []

@@ -1,4 +1,5 @@
 -- Rounds by so many workers. With none, one thread does all the work in order, and nothing else comes of it.
+-- In all of this `why` gives the fault of a submission that wants no request.
 use Rattle.std.specs.Prelude.{◌≡◌, ℕ, zero, suc, ◌+◌, List, [], ◌∷◌, length}
 use Rattle.world_model.specs.Messages.{Entry}
 use Rattle.world_model.specs.Machine.{Machine}

@@ -47,7 +47,8 @@ pub record IsSeed (hosts : List Host) (s : SeedOf) : Type 0 where
   pub participant : IsParticipant hosts s.participant
   pub command : IsName s.command
 
--- The label names one of the participants, a command's id and a path of 1 to 16 steps.
+-- The label names one of the participants, a command's id (a name) and a path of 1 to 16 steps, each 63 at most. Whether there is such a contract is
+-- not said.
 pub record IsLabel (hosts : List Host) (l : Label) : Type 0 where
   pub participant : IsParticipant hosts l.participant
   pub command : IsName l.command
@@ -62,7 +63,7 @@ IsReference hosts (LabelRef l) = IsLabel hosts l
 
 -- ---- fields and arguments
 
--- where the value is a text, it has no more bytes than the limit lets pass
+-- where the value is a text, it has at most 256 bytes; it always holds of any other value
 abbrev pub IsShort : Value → Type 0
 IsShort (Text s) = length s ≤ MOST_TEXT_BYTES
 IsShort v = Unit {0}
@@ -86,7 +87,7 @@ IsCommand hosts (Create template fields) = IsTemplate template × AreArgs hosts 
 IsCommand hosts (Exercise template contract choice args) =
     IsTemplate template × IsReference hosts contract × IsName choice × AreArgs hosts MOST_PARAMETERS args
 
--- There are 1 to 16 commands, and for each party that they name somebody confirms.
+-- There are 1 to 16 commands, each as `IsCommand` has it, and for each party that they name somebody confirms.
 pub record AreCommands (hosts : List Host) (commands : List Command) : Type 0 where
   pub some : 1 ≤ length commands
   pub few : length commands ≤ MOST_COMMANDS
@@ -101,15 +102,16 @@ IsInput hosts (Known r) = IsReference hosts r
 IsInput hosts (Forged id salt template fields) =
     MatchOption id Unit (IsReference hosts) × (length salt ≡ 32) × IsTemplate template × AreArgs hosts MOST_FIELDS fields
 
--- The names of the drafted action, its input, its arguments and its result are as the definitions above have them. Its actors and its children are
--- not looked at here.
+-- The name of the draft's template or choice is a name, its input is as `IsInput` has it, and its fields, arguments and result are as `IsArg` has them
+-- and few enough. Its actors and its children are not looked at here.
 abbrev pub IsDraft : List Host → DraftAction → Type 0
 IsDraft hosts (DraftCreate template fields) = IsTemplate template × AreArgs hosts MOST_FIELDS fields
 IsDraft hosts (DraftExercise input choice args actors consuming result) =
     IsInput hosts input × IsName choice × AreArgs hosts MOST_PARAMETERS args × IsArg hosts result
 IsDraft hosts (DraftFetch input actors) = IsInput hosts input
 
--- There are 1 to 16 trees of at most 64 drafts in all, at most 16 deep, and for each party that they name somebody confirms.
+-- There are 1 to 16 trees of at most 64 drafts in all, at most 16 deep, each draft as `IsDraft` has it, and for each party that they name somebody
+-- confirms.
 pub record AreDrafts (hosts : List Host) (drafts : Drafts) : Type 0 where
   pub some : 1 ≤ trees_count drafts
   pub few_roots : trees_count drafts ≤ MOST_COMMANDS

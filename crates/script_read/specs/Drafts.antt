@@ -192,8 +192,8 @@ exercise_draft_of hosts at d = do
 unfoldable pub is_draft : Data → Bool
 is_draft d = is_create d || (is_exercise d || is_fetch d)
 
--- Nothing where a draft at this depth, 1 for a root, keeps the limit on depth, else the fault Limit. The first that does not stands one deeper than
--- the limit.
+-- Nothing where a draft at this depth, 1 for a root, keeps the limit on depth, else the fault Limit. As drafts are read before their children, the
+-- first that breaks it stands just one deeper than the limit.
 abbrev pub within_tree : Place → ℕ → Result ⊤ WalkFault
 within_tree at depth = within_limit at DRAFT_DEPTH depth
 
@@ -201,8 +201,8 @@ within_tree at depth = within_limit at DRAFT_DEPTH depth
 unfoldable pub leaf_of : List Host → Place → Data → Result Drafts WalkFault
 leaf_of hosts at d = if is_create d then create_draft_in hosts at d else fetch_draft_in hosts at d
 
--- Each of these takes `depth`, how deep its drafts stand, and `n`, the number of items of all lists of drafts that were begun so far. Beside the
--- forest that it reads it gives that number after it.
+-- Each of these takes `depth`, how deep its drafts stand, and `n`, the number of items of all lists of drafts that were begun so far (`drafts_from`
+-- has it inside `before`). Beside the forest that it reads it gives that number after it.
 abbrev mutual
   -- the draft that a value spells, with all below it, and the count after it: Shape where it has not the form of one, then Limit where it stands
   -- too deep, then a fault inside

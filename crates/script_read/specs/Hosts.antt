@@ -52,8 +52,8 @@ new_name_in hosts at d = do
 unfoldable pub has_host_members : Data → Bool
 has_host_members d = has_members (codes "name" ∷ codes "parties" ∷ []) (codes "observing" ∷ codes "vetted" ∷ []) d
 
--- Puts one more participant behind those in `before`, but for what it observes and has vetted. Beside the participants stands for how many parties
--- they confirm. What is observed is only spelled here, since a later participant may be the one that confirms.
+-- Puts the participant that `d` spells behind those in `before`, beside whom stands for how many parties they confirm; the result has both with it.
+-- What it has vetted isn't read here, and what it observes is only tried to be names, since a later participant may be the one that confirms.
 unfoldable pub host_of : List Host × ℕ → Place → Data → Result (List Host × ℕ) WalkFault
 host_of before at d = do
   _ ← check (has_host_members d) (Shape at)
@@ -67,7 +67,7 @@ host_of before at d = do
 abbrev pub host_step : Place → ℕ → List Host × ℕ → Data → Result (List Host × ℕ) WalkFault
 host_step at i before d = host_of before (at_item at i) d
 
--- the participants of a list, but for what they observe and have vetted, and for how many parties they confirm in all
+-- the participants of a list, with nothing yet in what they observe and have vetted; and beside them for how many parties they confirm in all
 unfoldable pub hosts_of : Place → Data → Result (List Host × ℕ) WalkFault
 hosts_of at d = do
   items ← few_items_of at PARTICIPANTS d
@@ -81,7 +81,7 @@ participants_at = at_member [] (codes "participants")
 unfoldable pub root_member : List ℕ → Data → Result Data WalkFault
 root_member k d = member_of [] k d
 
--- the value of the member `participants` of a script, a list
+-- the value of the member `participants` of a script, whatever it is; Shape where that member is absent
 unfoldable pub participants_of : Data → Result Data WalkFault
 participants_of d = root_member (codes "participants") d
 

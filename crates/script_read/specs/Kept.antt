@@ -20,7 +20,7 @@ use Rattle.script_read.specs.PackageLimits.{AreAccepted}
 use Rattle.script_read.specs.declared.round.Round.{Round}
 use Rattle.script_read.specs.declared.script.Script.{Script}
 
--- The rule is within its limit and names a participant of the topology, and a party for which somebody confirms.
+-- The rule's name has at most 20 bytes, its participant is of the topology, and for its party somebody confirms.
 pub record IsRule (hosts : List Host) (rule : Rule) : Type 0 where
   pub short : length rule.name ≤ MOST_RULE_NAME_BYTES
   pub participant : rule.participant < length hosts
@@ -32,12 +32,13 @@ pub record AreRules (hosts : List Host) (rules : List Rule) : Type 0 where
   pub each : All (IsRule hosts) rules
   pub named : AreNamed rules
 
--- the command's id is kept for no rule of the participant
+-- The command's id is free for clients: it isn't the name of a rule of this participant with a hyphen and decimal digits behind it. Such ids are kept
+-- for what that rule submits.
 abbrev pub IsOwn : List Rule → (participant : ℕ) → (command : List ℕ) → Type 0
 IsOwn rules participant command = is_rule_command rules participant command ≡ false
 
--- The submission names a participant of the topology and parties for which somebody confirms, its command is kept for no rule, and its counts and
--- times are within their limits.
+-- The submission's participant is of the topology, its command's id is a name that is kept for no rule of that participant, it acts as 1 to 128 parties
+-- for which somebody confirms, its ledger time, if any, is within its limit, and what it asks for is as `IsWhat` has it.
 pub record IsSubmission (hosts : List Host) (rules : List Rule) (s : Submission) : Type 0 where
   pub participant : s.participant < length hosts
   pub command : IsName s.command
@@ -62,8 +63,8 @@ pub record IsRaw (hosts : List Host) (rules : List Rule) (r : RawRequest) : Type
   pub mediator : length r.mediator ≤ MOST_RAW_BYTES
   pub envelopes : All (IsRawEnvelope hosts) r.envelopes
 
--- The round moves the time within its limit, its paused and its restarting participants are of the topology, and its submissions and its raw
--- requests, at most 64, are as `IsSubmission` and `IsRaw` have them.
+-- The round moves the time within its limit, its paused and its restarting participants are of the topology, each of its submissions is as
+-- `IsSubmission` has it, and it has at most 64 raw requests, each as `IsRaw` has it.
 pub record IsRound (hosts : List Host) (rules : List Rule) (r : Round) : Type 0 where
   pub advance : r.advance ≤ MOST_ADVANCE
   pub paused : All (λ p. p < length hosts) r.paused
@@ -72,7 +73,7 @@ pub record IsRound (hosts : List Host) (rules : List Rule) (r : Round) : Type 0 
   pub raws : All (IsRaw hosts rules) r.raws
   pub restarts : All (λ p. p < length hosts) r.restarts
 
--- a script has at most 2,048 rounds with at most 2,048 submissions in all, each as `IsRound` has it
+-- the script has at most 2,048 rounds, each as `IsRound` has it, with at most 2,048 submissions in all
 pub record AreRounds (s : Script) : Type 0 where
   pub few : length s.rounds ≤ MOST_ROUNDS
   pub submits : sum_by (λ (r : Round). length r.submits) s.rounds ≤ MOST_SUBMISSIONS

@@ -81,7 +81,7 @@ fn salt_in(value: &Value, at: &Place) -> Result<Hash, WalkFault>
 }
 
 /// The name of a template and the fields in the object `value` at the place `at`, which has the members `template` and `fields` alone, as a drafted
-/// Create and a forged instance have; or the first fault.
+/// Create and a forged instance have; or the first fault. Participants and parties have to be those of the topology.
 #[tactic(auto, unfolding(crate::specs::Drafts::instance_of))]
 pub fn read_instance(
     alloc: Global,

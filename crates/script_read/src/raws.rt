@@ -153,8 +153,8 @@ fn read_raw(
     })
 }
 
-/// The raw requests in the member `raw` of the round that is `value` at the place `at`, none where it is absent, or the first fault. Participants
-/// have to be of the topology, and no command may have an id that is kept for one of `rules`.
+/// The raw requests in the member `raw` of the round that is `value` at the place `at`, none where it is absent, or the first fault. Participants have
+/// to be of the topology, and no command's id may be one that `rules` keep for its participant.
 #[tactic(auto, unfolding(crate::specs::Raws::raws_in))]
 pub fn raws_in(
     alloc: Global,

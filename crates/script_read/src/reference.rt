@@ -179,7 +179,8 @@ pub fn read_reference(
     read_text(alloc, text, at, topology)
 }
 
-/// The reference to a contract in the member `name` of the object `value` at the place `at`, or the first fault; Shape where that member is absent.
+/// The reference to a contract in the member `name` of the object `value` at the place `at`, or the first fault: Shape where that member is absent,
+/// Unknown where no participant of the topology has the name in a label.
 #[tactic(auto, unfolding(crate::specs::Commands::reference_in))]
 pub fn reference_in(
     alloc: Global,

@@ -160,8 +160,8 @@ fn read_rounds(
     )
 }
 
-/// The rounds of the script that is `value`, in order, or the first fault. `topology` has its participants, and `rules` are its rules, whose ids of
-/// commands no submission may have.
+/// The rounds of the script that is `value`, in order, or the first fault. `topology` has its participants, and `rules` are its rules: no submission or
+/// raw request may have a command's id that they keep for its participant.
 #[tactic(auto, unfolding(crate::specs::Rounds::rounds_in))]
 pub fn rounds_in(
     alloc: Global,

@@ -127,8 +127,8 @@ fn read_submits(
     Ok((submits, count))
 }
 
-/// The submissions of the round that is `value` at the place `at`, and the number of submissions with them, or the first fault. `before` is the
-/// number of those in the rounds before, which count to the limit; no command may have an id that is kept for `rules`.
+/// The submissions in the member `submits` of the round that is `value` at the place `at`, none where it is absent, and how many they are with the
+/// `before` of the rounds before; or the first fault, Limit where that is too many. No command's id may be one that `rules` keep for its participant.
 #[tactic(auto, unfolding(crate::specs::Rounds::submits_in))]
 pub fn submits_in(
     alloc: Global,

@@ -76,8 +76,8 @@ fn read_node(
     Ok((Tree { root, below }, count))
 }
 
-/// The drafts of the list at the place `at`, all at `depth`, 1 for roots, with all below them, and the number of drafts after them; or the first
-/// fault. `before` is the number of those that were counted before the list.
+/// The drafts of the list at the place `at`, all at `depth`, 1 for roots, with all below them, and the number of drafts counted so far, these included;
+/// or the first fault. `before` is the number of those that were counted before the list.
 #[cycle(tree)]
 pub fn read_tree(
     alloc: Global,

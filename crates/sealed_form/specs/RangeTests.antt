@@ -28,7 +28,7 @@ use Rattle.blind_tree.specs.LeafBytes.{common_bytes, core_bytes, roles_bytes}
 abbrev pub is_hash : List ℕ → Bool
 is_hash hash = nat_eq (length hash) 32
 
--- a text is UTF-8 and has no more bytes than a value may have
+-- a text is UTF-8 of at most 256 bytes
 abbrev pub is_short_text : List ℕ → Bool
 is_short_text text = nat_le (length text) MOST_TEXT_BYTES && is_utf8 text
 
@@ -51,7 +51,7 @@ is_in_range (Party p) = is_name p
 is_in_range (Contract h) = is_hash h
 is_in_range (Parties s) = is_party_set s
 
--- the formats can hold these values, as many as a contract's fields or a choice's arguments may be
+-- the formats can hold this list of a contract's fields or a choice's arguments: at most 12 values, each of which they can hold
 abbrev pub are_values : List Value → Bool
 are_values values = nat_le (length values) MOST_FIELDS && list_all is_in_range values
 

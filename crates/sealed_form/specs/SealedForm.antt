@@ -62,7 +62,7 @@ tree_for topology packages sender name salts t p =
 abbrev pub envelope_for : Topology → Packages → (sender : ℕ) (name : List ℕ) → Salts → Transaction → ℕ → Envelope
 envelope_for topology packages sender name salts t p = record { to = p; bytes = spell_tree (tree_for topology packages sender name salts t p) }
 
--- those of these participants that confirm a confirmer of a view; `confirms` tells for which parties each confirms
+-- those of these participants that confirm for a confirmer of a view; `confirms` tells for which parties each confirms
 abbrev pub confirming_by : (confirms : ℕ → List ℕ → Bool) → List ℕ → Forest SplitView → List ℕ
 confirming_by confirms participants views =
     filter (λ p. list_any (λ (view : SplitView). list_any (confirms p) view.confirmers) (preorder views)) participants

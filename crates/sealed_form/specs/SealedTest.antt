@@ -21,7 +21,8 @@ have_roles packages actions = list_all (λ (a : Act). (the_language packages).ha
 abbrev pub are_informees_hosted : Topology → Packages → List Act → Bool
 are_informees_hosted topology packages actions = list_all (λ (a : Act). list_all (is_hosted topology) (roles_by packages a.action).informees) actions
 
--- The sender is a participant, which confirms for the requesters, and the parties of the actions are those of the topology.
+-- The sender is a participant of the whole's name and confirms for the requesters, each action has roles, and its informees and the parties that it
+-- names are parties of the topology.
 abbrev pub are_parties_hosted : Topology → Packages → (sender : ℕ) → Whole → Bool
 are_parties_hosted topology packages sender whole =
     is_host_named topology.hosts sender whole.sender

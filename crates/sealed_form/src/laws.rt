@@ -87,7 +87,8 @@ pub fn requests_within_limits_are_sealed()
         → IsSealedForm topology packages (request_of topology packages sender whole.sender command whole.salts whole.transaction) }
 {}
 
-/// The trees of a request are those that blinding gives, with the salts of the transaction's seed.
+/// The trees of a request are those that blinding gives, with the salts of the transaction's seed, where the topology is valid and the given name is
+/// the sender's.
 pub fn requests_are_blinded()
     ensures participants { (topology : Topology) (packages : Packages) (sender : ℕ) (name : List ℕ) (t : Transaction) (seed : List ℕ) (p : ℕ)
         → IsValid topology

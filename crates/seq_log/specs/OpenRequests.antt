@@ -32,7 +32,7 @@ abbrev pub begins_with : (ℕ → Bool) → List ℕ → Bool
 begins_with test [] = false
 begins_with test (k ∷ places) = test k
 
--- the second list where the test of a list's first place holds, and else the first list; for `after_front`
+-- `fewer` where the Bool is true, which says that the first place of the list `kept` passes a test, and else `kept`; for `after_front`
 abbrev pub unless_front : Bool → (kept fewer : List ℕ) → List ℕ
 unless_front true kept fewer = fewer
 unless_front false kept fewer = kept

@@ -22,7 +22,7 @@ fn entry_time(slips: &Vec<Slip<'_>>, place: u64) -> u64
 }
 
 /// The fault TooLate, where a message on the request at place `request` would come after that request's decision time; None where it would come in
-/// time. `last` is the time of the log's last entry, which the next one follows by a microsecond.
+/// time. `slips` are those of the log's entries, and `last` is the time of its last one, which the next one follows by a microsecond.
 pub fn if_late(
     slips: &Vec<Slip<'_>>,
     params: &Params,
@@ -43,7 +43,7 @@ pub fn if_late(
     }
 }
 
-/// Whether the decision time of the request at `place` lies before `time`.
+/// Whether the decision time of the request at `place` lies before `time`. `slips` are those of the log's entries, and have the request's time.
 pub fn is_past(slips: &Vec<Slip<'_>>, params: &Params, place: u64, time: u64) -> bool
     ensures { (t : LogPrefix) → Holds t slips.now.items → result ≡ nat_lt (decision_time_of params.now t.list place) time }
 {

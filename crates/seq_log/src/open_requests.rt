@@ -35,7 +35,8 @@ impl OpenRequests {
         }
     }
 
-    /// Drops the requests whose decision time lies before `time`. They are at the front, since decision times rise with the places.
+    /// Drops the requests whose decision time lies before `time`. They are at the front, since decision times rise with the places. `slips` are those
+    /// of the log's entries, and have the requests' times.
     pub fn expire(&mut self, slips: &Vec<Slip<'_>>, params: &Params, time: u64)
         ensures places { (t : LogPrefix) → Holds t slips.now.items
             → self.new.places.items ≡ after_front (λ k. nat_lt (decision_time_of params.now t.list k) time) self.old.places.items }

@@ -15,7 +15,8 @@ use Rattle.world_model.specs.Settled.{sum_below}
 use Rattle.shared_rounds.specs.Queues.{AreQueuesOf, queued}
 
 -- What holds once the submissions `submits` of a round are answered: of the log `log`, which was `first` when they began, and of the queues of results,
--- one for each participant, in the order of the topology. `now` and `paused` are the round's time and who is paused in it.
+-- one for each participant, in the order of the topology. `now` is the round's time, `paused` are those paused in it, and `why` tells why a submission
+-- wants no request.
 pub record AreAnswered (m : Machine) (why : Why SubmitFault) (now : ℕ) (paused : List ParticipantId) (first : List Entry) (submits : List Submission)
     (log : List Entry) (queues : List (List SubmitResult)) : Type 0 where
   -- the log is genuine, within its capacity, and goes on from `first`

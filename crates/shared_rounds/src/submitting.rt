@@ -95,11 +95,9 @@ fn gather<
     Ok(Gathered { world, queues })
 }
 
-/// Answers the submissions of a round that has begun, by a client for each participant in a thread of its own, beside as many lanes as `workers` has.
-/// Each client submits what is its participant's, in order, and asks once after each request that was sent. Before a client's request is prepared, its
-/// participant reads at least what the client has seen. Lanes go on until they find nothing more to do.
-/// Where there are less than two submissions no thread is started, and no lane works. When all have ended the parts of the synchroniser are put together
-/// again, with the participants' bases as they were, and it is not settled. After want of memory there is no synchroniser any more.
+/// Answers the submissions of a round that has begun, by a client for each participant in a thread of its own, beside as many lanes as `workers` has;
+/// with less than two submissions no thread is started and no lane works. Each client submits in order, and asks once after each request that was sent.
+/// The world that comes out isn't settled, and has the bases as they were. After want of memory there is none any more.
 pub fn submit_shared<'r, R: Threads + Wait + Sync + RandomSource + AllocGlobal, G: Gate + Sync>(
     workers: &Workers<'_, R, G>,
     setup: &Setup,

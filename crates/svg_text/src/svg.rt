@@ -55,8 +55,8 @@ impl Svg {
         Ok(Text::of_string(out))
     }
 
-    /// Begins a group, which has what is drawn up to its `end_group`. The class is a word of the caller's, by which others find the group in the
-    /// text.
+    /// Begins a group, which has what is drawn up to its `end_group`. The class is one of the style sheet, or a word by which others find the group
+    /// in the text.
     pub fn begin_group(&mut self, class: &str) -> Result<(), AllocError>
         ensures { OnOk result (self.new ≡ self.old ++ group_start class.now ++ codes "\n") }
     {
@@ -65,7 +65,7 @@ impl Svg {
         self.out.push_str(">\n")
     }
 
-    /// Begins a group with a class of the caller's and with a title, which readers show when the pointer rests on the group.
+    /// Begins a group, which has what is drawn up to its `end_group`, with a class and with a title, which readers show when the pointer rests on it.
     pub fn begin_titled_group(&mut self, class: &str, title: &str) -> Result<(), AllocError>
         ensures { OnOk result (self.new ≡ self.old ++ group_start class.now ++ title_element title.now ++ codes "\n") }
     {

@@ -21,15 +21,16 @@ use Rattle.prepare_request.specs.declared.submit_fault.SubmitFault.{SubmitFault}
 use Rattle.node_core.specs.Machines.{IsNodeOf}
 use Rattle.sync_shared.specs.SetUp.{IsSetUp}
 
--- What holds of a sequencer behind its lock: it is of the history `row` and of the machine m, its log begins with `start`, the log when the sharing
--- began, and `total` requests and Ticks have come in since.
+-- What holds of a sequencer behind its lock: it is of the history `row` and of the machine m, its log is genuine, within the machine's capacity and
+-- begins with `start`, the log when the sharing began, and `total` requests and Ticks have come in since.
 pub record IsLogBehind (row : RowName) (m : Machine) (start : List Entry) (total : ℕ) (sequencer : Sequenced) : Type 0 where
   pub in_row : sequencer.row ≡ row
   pub is_for : IsFor m sequencer
   pub behind : LogBehind m start total sequencer.list
 
--- What holds of the node behind the lock of participant p: it has read this list of entries, which begins the log, and keeps its inbox of them from its
--- base on.
+-- What holds of the node behind the lock of participant p: it is that participant of the machine m, has read the entries `list`, a genuine log, and
+-- keeps its inbox of them from its base on, which is `bases p`. `why` is as `IsSetUp` asks. That `list` begins the sequencer's log is said in
+-- `AreNodesBehind`.
 pub record IsNodeBehind (topology : Topology) (packages : Packages) (m : Machine) (why : Why SubmitFault) (bases : Bases) (p : ParticipantId)
     (list : List Entry) (node : NodeValue) : Type 0 where
   pub set_up : IsSetUp topology packages m why

@@ -21,7 +21,8 @@ pub record IsNextIn (row : RowName) (m : Machine) (list : List Entry) (slip : Lo
   pub counted : length list < 2 ^ 64
   pub genuine : GenuineLog m slip.list
 
--- The log `after` is what was `known` of it, then maybe more, and as its last entry a Tick of the time `now`. So this Tick wasn't known before.
+-- The log `after` is what was `known` of it, then maybe more, and as its last entry a Tick, of the time `now` or of the microsecond after the entry
+-- before it where that is later. So this Tick wasn't known before.
 pub record IsTicked (now : ℕ) (known after : List Entry) : Type 0 where
   pub more : List Entry
   pub is : after ≡ (known ++ more) ++ entry_after now (known ++ more) Tick ∷ []

@@ -135,8 +135,8 @@ fn take_turn<'r, S: Session, R: Wait + RandomSource + AllocGlobal, G: Gate, cons
     Ok(true)
 }
 
-/// The turn of the participant with the index `at`: it reads to the end of the log, and then checks one request or, where it owes nothing, sends one
-/// response. The result is whether it did either, after which more may be left to be done; false where there is no such participant.
+/// The turn of the participant with the index `at`, from 0 to 7: it reads to the end of the log, and then checks one request or, where it owes nothing,
+/// sends one response. The result is whether it did either, after which more may be left to be done; false where there is no such participant.
 pub fn serve<'r, S: Session, R: Wait + RandomSource + AllocGlobal, G: Gate>(
     rt: &R,
     log: &Mutex<LockedLog<'r, S>>,
@@ -214,8 +214,8 @@ fn hand_in_verdict<'r, S: Session>(
     log.answer(Message::Verdict(verdict))
 }
 
-/// The mediator reads to the end of the log and, unless verdicts are held, sends one verdict. The result is whether it sent one. After want of memory a
-/// verdict may be taken and lost.
+/// The mediator reads to the end of the log and, unless verdicts are held, hands in one verdict, which is dropped where it comes too late. The result
+/// is whether it handed one in. After want of memory a verdict may be taken and lost.
 pub fn mediate<'r, S: Session, R: Wait>(
     rt: &R,
     log: &Mutex<LockedLog<'r, S>>,

@@ -91,7 +91,8 @@ impl<'r, S: Session> LockedLog<'r, S> {
         }
     }
 
-    /// Appends a client's request, counts it with the client's share, and gives its slip. An Err says why it is refused; then all is as before.
+    /// Appends a client's request, counts it with the client's share, and gives its slip. An Err says why it is refused; then all is as before. `now`
+    /// is the round's time, which the time of the entry doesn't hang on.
     pub fn append(
         &mut self,
         share: &mut Share<S>,

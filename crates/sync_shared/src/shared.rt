@@ -208,13 +208,9 @@ impl<'r, S: Session> Shared<'r, S> {
         complete(rt, &self.log, &self.nodes, client, ticket)
     }
 
-    /// A turn of lane `lane` of `lanes`, which serves the participants whose index has the remainder `lane` when it is divided by `lanes`; lane 0 serves
-    /// the mediator too. Each that isn't paused reads to the end of the log, and then checks one request or, where it owes nothing, sends one response;
-    /// the mediator reads to the end and, unless verdicts are held, sends one verdict. The result is whether anything was checked or sent, after which
-    /// more may be left to be done.
-    /// The gate is passed before each view, outside every lock, with the request's place and the number of its views that were checked before. After each
-    /// view the participant is asked whether the request is decided by what it has read. Where it is, the check ends there, and nothing comes of it but
-    /// the claim. A number for an executor comes by chance, and a turn that gets none ends as for want of memory.
+    /// A turn of lane `lane` of `lanes`: each participant that isn't paused and whose index leaves `lane` when divided by `lanes` reads to the end and
+    /// checks one request or else sends one response; in lane 0 the mediator reads too and, unless verdicts are held, hands in one. The result is
+    /// whether any did. The gate is passed before each view. A check ends without a response once its participant has read that the request is decided.
     pub fn turn<R: Wait + RandomSource + AllocGlobal, G: Gate>(
         &self,
         rt: &R,

@@ -44,8 +44,8 @@ pub record HasReadTo (round : FiredRound) (p : ParticipantId) (n : ℕ) : Type 0
   pub at_most : n ≤ round.end
   pub awake : has_place round.paused p ≡ false → n ≡ round.end
 
--- In this round these rules are asked one after another about the active contracts of their participants, and caused `caused`. `earlier` was caused
--- in the rounds before, so that no rule fires on its contracts again.
+-- In this round these rules are asked one after another about the active contracts of their participants, and caused `caused`. `earlier` was caused in
+-- the rounds before, so that no rule fires on its contracts again. `may` tells what a rule may be answered on a contract.
 abbrev pub RulesFire : Answers → Reading → Params → List Entry → FiredRound → (earlier : List Caused) → List Rule → (caused : List Caused) → Type 0
 RulesFire may reading params log round earlier [] caused = caused ≡ []
 RulesFire may reading params log round earlier (rule ∷ rules) caused =
@@ -53,7 +53,8 @@ RulesFire may reading params log round earlier (rule ∷ rules) caused =
     × Fires may rule round.number round.now (fired_on rule.name earlier) (active_at_clean reading params rule.participant n log) own
     × RulesFire may reading params log round earlier rules others
 
--- In each of these rounds, which follow one another, the rules fire as `RulesFire` has it. `earlier` was caused in the rounds before these.
+-- In each of these rounds, which follow one another, the rules fire as `RulesFire` has it. `earlier` was caused in the rounds before these, and `may`
+-- tells what a rule may be answered on a contract.
 abbrev pub RoundsFire : Answers → Reading → Params → List Entry → List Rule → (earlier : List Caused) → List FiredRound → Type 0
 RoundsFire may reading params log rules earlier [] = Unit {0}
 RoundsFire may reading params log rules earlier (round ∷ rounds) =
@@ -93,8 +94,8 @@ pub record CausedHolds (may : Answers) (rules : List Rule) (reading : Reading) (
       → has_fired (fired_on rule.name (all_caused before)) (row.known).id ≡ false
       → ((one : Caused) × Contains round.caused one × (one.rule ≡ rule.name) × (one.contract ≡ (row.known).id)) ⊎ may rule.name row.known (Ok None)
 
--- The first `count` of the rules were asked in a round, and they caused `caused`. `fired` tells of each rule, by its place in the list, on which
--- contracts it has fired; it serves to ask one rule after another.
+-- The first `count` of the rules were asked in a round and caused `caused`, after `earlier` in the rounds before. `fired` gives, by a rule's place in
+-- the list, the ids of the contracts on which it has fired. With it the rules can be asked one after another.
 pub record AreAskedSo (may : Answers) (reading : Reading) (params : Params) (log : List Entry) (round : FiredRound) (earlier : List Caused)
     (rules : List Rule) (fired : ℕ → List (List ℕ)) (count : ℕ) (caused : List Caused) : Type 0 where
   pub fires : RulesFire may reading params log round earlier (take count rules) caused

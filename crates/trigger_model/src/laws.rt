@@ -80,7 +80,7 @@ pub fn fires_are_noted<A: Answering>()
         → fired_on name (before ++ own) ≡ fired_on name before }
 {}
 
-/// What rules caused in a round over a log that had its end they caused over every longer one.
+/// What rules caused in a round, as a log that reaches to the round's end has it, they caused as every longer log has it.
 pub fn fires_stay<A: Answering>()
     ensures { (answer : A) (reading : Reading) (params : Params) (log more : List Entry) (round : FiredRound) (earlier : List Caused)
         (rules : List Rule) (caused : List Caused)

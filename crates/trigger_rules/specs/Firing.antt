@@ -58,7 +58,7 @@ AsksOne may rule round now fired row caused fired' caused' =
     ⊎ (may rule.name row.known (Ok None) × (fired' ≡ fired) × (caused' ≡ caused))
     ⊎ ((one : Caused) × FiresOn may rule round now fired row.known one × (fired' ≡ fired ++ (row.known).id ∷ []) × (caused' ≡ caused ++ one ∷ []))
 
--- each place of the list is less than those behind it
+-- each place of the list is less than those behind it, as of the rows on which a rule fires
 abbrev pub Rise : List ℕ → Type 0
 Rise places = (i j a b : ℕ) → i < j → slice_get places i ≡ Some a → slice_get places j ≡ Some b → a < b
 
@@ -68,6 +68,7 @@ pub record Fires (may : Answers) (rule : Rule) (round now : ℕ) (fired : List (
   pub places : List ℕ  -- of the rows on which it fires
   pub in_order : Rise places
   pub each_place : length places ≡ length caused
+  -- the k-th of what it causes comes of the row at the k-th place, after it had fired on those before
   pub each : (k at : ℕ) (one : Caused) → slice_get places k ≡ Some at → slice_get caused k ≡ Some one
       → (row : ActiveRow) × (slice_get rows at ≡ Some row) × FiresOn may rule round now (fired ++ contracts_of (take k caused)) row.known one
   pub asked : (row : ActiveRow) → Contains rows row → has_fired fired (row.known).id ≡ false

@@ -12,7 +12,7 @@ pub(crate) enum Lack {
 }
 
 impl Lack {
-    /// The words behind `withheld from P1:` in a picture.
+    /// What a picture says of the lack, behind `withheld from P1: `.
     pub fn words(self) -> &'static str {
         match self {
             Lack::NoEnvelope => "no envelope",

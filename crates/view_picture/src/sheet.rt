@@ -73,8 +73,8 @@ impl Sheet {
         }))
     }
 
-    /// Puts a participant's chip at `left`, or at the beginning of a new row where it has no room there. The result is how far to the right the next
-    /// chip stands.
+    /// Puts a participant's chip into a row that has the part `span` of the width: at `left`, or at the beginning of a new row where it has no room
+    /// there. The result is how far to the right the next chip stands.
     pub fn put_chip(
         &mut self,
         span: Span,

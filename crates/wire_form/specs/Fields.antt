@@ -28,13 +28,13 @@ int_at bytes = do
   n ← bytes_at 8 bytes
   Ok (cast_signed w64 (from_be_bytes w64 n.0), n.1)
 
--- a count of two bytes; Err where it is above the limit
+-- a count of two bytes; Err where it is above the limit, the first argument, or fewer bytes are left
 unfoldable pub count_at : ℕ → Reading ℕ
 count_at limit bytes = do
   n ← bytes_at 2 bytes
   if nat_le (from_be_bytes w16 n.0) limit then Ok (from_be_bytes w16 n.0, n.1) else Err (length bytes)
 
--- a count of one byte; Err where it is above the limit
+-- a count of one byte; Err where it is above the limit, the first argument, or no byte is left
 unfoldable pub small_count_at : ℕ → Reading ℕ
 small_count_at limit bytes = do
   n ← byte_at bytes

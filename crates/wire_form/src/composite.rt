@@ -13,8 +13,8 @@ use ledger_terms::{Action, Instance, PartySet, TemplateName, Value, ValueList};
 use std::alloc::Global;
 
 impl<'a> Reader<'a> {
-    /// Reads a set of parties: a count of at most 128 and names that ascend. A name that doesn't stand above those before it is a field that can't be
-    /// read.
+    /// Reads a set of parties: a count of at most 128 and names that ascend. Err has how many bytes are left at the first field that can't be read,
+    /// such as a name that doesn't stand above those before it; or it is want of memory.
     #[tactic(auto, unfolding(crate::specs::Reading::set_at))]
     pub fn parties(&mut self, alloc: Global) -> Result<PartySet, ReaderFault>
         ensures { Gives (λ x. (x, self.new)) result (set_at self.old) }
@@ -46,7 +46,8 @@ impl<'a> Reader<'a> {
         }
     }
 
-    /// Reads a value: a byte that tells its kind, and what that kind has. Another byte can't be read.
+    /// Reads a value: a byte that tells its kind, and what that kind has. Err has how many bytes are left at the first field that can't be read, such
+    /// as a byte that tells no kind; or it is want of memory.
     #[tactic(auto, unfolding(crate::specs::Reading::value_at))]
     pub fn value(&mut self, alloc: Global) -> Result<Value, ReaderFault>
         ensures { Gives (λ x. (x, self.new)) result (value_at self.old) }
@@ -72,7 +73,8 @@ impl<'a> Reader<'a> {
         }
     }
 
-    /// Reads a list of values: a count of at most 12 and the values.
+    /// Reads a list of values: a count of at most 12 and the values. Err has how many bytes are left at the first field that can't be read, or it is
+    /// want of memory.
     #[tactic(auto, unfolding(crate::specs::Reading::values_at))]
     pub fn values(&mut self, alloc: Global) -> Result<ValueList, ReaderFault>
         ensures { Gives (λ x. (x, self.new)) result (values_at self.old) }
@@ -99,7 +101,8 @@ impl<'a> Reader<'a> {
         Ok(())
     }
 
-    /// Reads an instance: the names of its package and of its template, and its fields.
+    /// Reads an instance: the names of its package and of its template, and its fields. Err has how many bytes are left at the first field that can't
+    /// be read, or it is want of memory.
     #[tactic(auto, unfolding(crate::specs::Reading::instance_at))]
     pub fn instance(&mut self, alloc: Global) -> Result<Instance, ReaderFault>
         ensures { Gives (λ x. (x, self.new)) result (instance_at self.old) }
@@ -111,7 +114,8 @@ impl<'a> Reader<'a> {
         Ok(Instance::of(alloc, template, fields)?)
     }
 
-    /// Reads an action: a byte that tells whether it is a Create, an Exercise or a Fetch, and its parts. Another byte can't be read.
+    /// Reads an action: a byte that tells whether it is a Create, an Exercise or a Fetch, and its parts. Err has how many bytes are left at the first
+    /// field that can't be read, such as another byte; or it is want of memory.
     #[tactic(auto, unfolding(crate::specs::Reading::action_at))]
     pub fn action(&mut self, alloc: Global) -> Result<Action, ReaderFault>
         ensures { Gives (λ x. (x, self.new)) result (action_at self.old) }

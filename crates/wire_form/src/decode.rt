@@ -13,7 +13,8 @@ use crate::wire_fault::WireFault;
 use ledger_terms::{Action, Instance, PartySet, Value};
 use std::alloc::Global;
 
-/// Reads the value whose spelling begins at place `at` of the bytes. Err names the field that can't be read, or want of memory.
+/// Reads the value whose spelling begins at place `at` of the bytes, and gives it with the place after it. Err names the place where the first field
+/// begins that can't be read, or want of memory.
 pub fn decode_value(alloc: Global, bytes: &[u8], at: usize) -> Result<Decoded<Value>, WireFault>
     requires { at ≤ length bytes.now }
     ensures exact { IsRead value_at bytes.now at result }
@@ -25,7 +26,8 @@ pub fn decode_value(alloc: Global, bytes: &[u8], at: usize) -> Result<Decoded<Va
     placed(bytes.len(), reader.len(), read)
 }
 
-/// Reads the set of at most 128 parties whose spelling begins at place `at` of the bytes. Err names the field that can't be read, or want of memory.
+/// Reads the set of at most 128 parties whose spelling begins at place `at` of the bytes, and gives it with the place after it. Err names the place
+/// where the first field begins that can't be read, or want of memory.
 pub fn decode_parties(
     alloc: Global,
     bytes: &[u8],
@@ -41,7 +43,8 @@ pub fn decode_parties(
     placed(bytes.len(), reader.len(), read)
 }
 
-/// Reads the instance whose spelling begins at place `at` of the bytes. Err names the field that can't be read, or want of memory.
+/// Reads the instance whose spelling begins at place `at` of the bytes, and gives it with the place after it. Err names the place where the first field
+/// begins that can't be read, or want of memory.
 pub fn decode_instance(
     alloc: Global,
     bytes: &[u8],
@@ -57,7 +60,8 @@ pub fn decode_instance(
     placed(bytes.len(), reader.len(), read)
 }
 
-/// Reads the action whose spelling begins at place `at` of the bytes. Err names the field that can't be read, or want of memory.
+/// Reads the action whose spelling begins at place `at` of the bytes, and gives it with the place after it. Err names the place where the first field
+/// begins that can't be read, or want of memory.
 pub fn decode_action(alloc: Global, bytes: &[u8], at: usize) -> Result<Decoded<Action>, WireFault>
     requires { at ≤ length bytes.now }
     ensures exact { IsRead action_at bytes.now at result }

@@ -57,7 +57,8 @@ pub fn encode_parties(parties: &PartySet, out: &mut Bytes) -> Result<(), AllocEr
     Ok(())
 }
 
-/// Puts a value's spelling at the end of `out`: a byte that tells its kind, and what that kind has.
+/// Puts a value's spelling at the end of `out`: a byte that tells its kind, and what that kind has. A text has at most 256 bytes, and a set at most 128
+/// names. The error is want of memory.
 pub fn encode_value(value: &Value, out: &mut Bytes) -> Result<(), AllocError>
     requires { IsSpellable value.now }
     ensures { OnOk result (out.new ≡ out.old ++ spell_value value.now) }

@@ -82,7 +82,7 @@ pub record SentHolds (m : Machine) (now : ℕ) (log : List Entry) (end : ℕ) (w
   pub in_part : place < end
 
 -- The result Duplicate of a submission is right: at the place stands a request with the sender and command of the one that it wants, and that is the
--- request of an earlier Sent result, or a raw one of this round or an earlier one.
+-- request of one of the `earlier` Sent results, or one of `raws`, the raw requests of this round and those before.
 pub record DuplicateHolds {F : Type 0} (m : Machine) (now : ℕ) (log : List Entry) (raws : List Request) (earlier : Results F) (what : Submission)
     (place read_to : ℕ) : Type 0 where
   pub request : Request
@@ -93,8 +93,8 @@ pub record DuplicateHolds {F : Type 0} (m : Machine) (now : ℕ) (log : List Ent
   pub sender : first.sender ≡ request.sender
   pub command : first.command ≡ request.command
 
--- The result LogFull of a submission is right: the `need` of the request that it wants, and the `amount` that some first entries reserve, are above
--- the capacity. No request of its sender and command stands in these.
+-- The result LogFull of a submission is right: the `need` of the request that it wants, and the `amount` that the first `some` entries reserve, are
+-- together above the capacity. No request of its sender and command stands in these entries.
 pub record FullHolds (m : Machine) (now : ℕ) (log : List Entry) (end : ℕ) (what : Submission) (amount need read_to : ℕ) : Type 0 where
   pub request : Request
   pub wanted : wanted_at m now log what read_to ≡ Some request
@@ -106,8 +106,8 @@ pub record FullHolds (m : Machine) (now : ℕ) (log : List Entry) (end : ℕ) (w
   pub full : m.capacity < amount + need
   pub fresh : list_any (λ (entry : Entry). is_request_of request.sender request.command entry.message) (take some log) ≡ false
 
--- A refusal of a submission is right, by its cause. Paused is so exactly where the round's list names the participant, so no other answer has it
--- there; `end` is where the part ends, and `earlier` are the results before this one.
+-- A refusal of a submission is right, by its cause: Paused where the round pauses its participant, Unwanted where it wants no request and `why` gives
+-- this fault, Duplicate and LogFull by `DuplicateHolds` and `FullHolds`. `end` is where the part ends, `earlier` are the results before this one.
 abbrev pub RefusalHolds : {F : Type 0} → Machine → Why F → (now : ℕ) → Round → (raws : List Request) → List Entry → (end : ℕ)
     → (earlier : Results F) → Submission → SubmitFault F → (read_to : ℕ) → Type 0
 RefusalHolds m why now round raws log end earlier what Paused n = has_place round.paused what.participant ≡ true
@@ -115,7 +115,8 @@ RefusalHolds m why now round raws log end earlier what (Unwanted fault) n = (wan
 RefusalHolds m why now round raws log end earlier what (Duplicate place) n = DuplicateHolds m now log raws earlier what place n
 RefusalHolds m why now round raws log end earlier what (LogFull amount need) n = FullHolds m now log end what amount need n
 
--- The result of a submission is right: where it was sent its request stands there, and where it was refused there is the cause.
+-- The result of a submission is right: by `SentHolds` where it was sent, by `RefusalHolds` where it was refused. `end` is where the part ends, `raws`
+-- are the raw requests up to this round, and `earlier` the results before this one.
 abbrev pub AnswerHolds : {F : Type 0} → Machine → Why F → (now : ℕ) → Round → (raws : List Request) → List Entry → (end : ℕ)
     → (earlier : Results F) → Submission → SubmitResult F → Type 0
 AnswerHolds m why now round raws log end earlier what (Sent place read_to) = SentHolds m now log end what place read_to
@@ -128,8 +129,9 @@ pub record ReadHolds {F : Type 0} (start n : ℕ) (earlier : Results F) (what : 
   pub after_sent : (before : Submission) (place read_to : ℕ) → Contains earlier (before, Sent place read_to) → before.participant ≡ what.participant
       → place < n
 
--- One result of a part is right: its answer is, and the participant had read as much as it has to. The log goes up to the end of the part, whose
--- submissions begin at `start`; `raws` are the raw requests up to this round, and `earlier` the results before.
+-- One result of a part is right: the answer is (`AnswerHolds`); a participant that isn't paused had read as far as it has to (`ReadHolds`), and a
+-- paused one answers Paused. The log goes up to the part's end, `end`, and the submissions begin at `start`; `raws` are the raw requests up to this
+-- round, `earlier` the results before.
 pub record ResultHolds {F : Type 0} (m : Machine) (why : Why F) (now : ℕ) (round : Round) (raws : List Request) (log : List Entry) (start end : ℕ)
     (earlier : Results F) (what : Submission) (result : SubmitResult F) : Type 0 where
   pub answer : AnswerHolds m why now round raws log end earlier what result
@@ -138,7 +140,8 @@ pub record ResultHolds {F : Type 0} (m : Machine) (why : Why F) (now : ℕ) (rou
   pub read : has_place round.paused what.participant ≡ false → ReadHolds start (read_of result) earlier what
   pub paused : has_place round.paused what.participant ≡ true → (n : ℕ) × (result ≡ Refused Paused n)
 
--- each of these results of a part is right, against the results before it, which are `earlier` for the first
+-- Each of these results of a part is right (`ResultHolds`), against the results before it, which are `earlier` for the first. The part's submissions
+-- begin at `start`, and it ends at `end`.
 abbrev pub ResultsHold : {F : Type 0} → Machine → Why F → (now : ℕ) → Round → (raws : List Request) → List Entry → (start end : ℕ)
     → (earlier : Results F) → Results F → Type 0
 ResultsHold m why now round raws log start end earlier [] = Unit {0}
@@ -164,7 +167,8 @@ pub record PartHolds {F : Type 0} (m : Machine) (now : ℕ) (round : Round) (res
   pub in_rest : (what : Submission) (k read_to : ℕ) → Contains results (what, Sent k read_to) → length (begun m now round before) ≤ k
   pub settled : Settled m round.paused round.holds_verdicts after
 
--- A round with its results and its part is right: the part is, its results are of its submissions in order, and each of them is right.
+-- A round is right, over the log `before` where it begins and `after` where it ends: its part is (`PartHolds`), its results are of its submissions in
+-- order, and each result is right. `raws` are the raw requests up to this round, `earlier` the results before it.
 pub record RoundHolds {F : Type 0} (m : Machine) (why : Why F) (now : ℕ) (round : Round) (raws : List Request) (earlier results : Results F)
     (before after : List Entry) : Type 0 where
   pub part : PartHolds m now round results before after

@@ -95,7 +95,8 @@ abbrev pub loses_reply : World → ParticipantId → NodeState → Option Respon
 loses_reply w p node None = w
 loses_reply w p node (Some response) = with_node w p (sent node response.request)
 
--- the world after a step of one participant, given its state; the world as it was where there is no such participant
+-- the world after a step of one participant, which `step` gives of the participant's state; the world as it was where there is no such participant
+-- (None)
 abbrev pub at_node : World → Option NodeState → (NodeState → World) → World
 at_node w None step = w
 at_node w (Some node) step = step node

@@ -31,7 +31,7 @@ ghost use Rattle.world_model.specs.Settling.{PassedTo, WorldReady, caught_up_wor
 ghost use Rattle.world_model.specs.Headline.{Headline};
 ghost use Rattle.world_model.specs.Example;
 
-/// Each event keeps a world lawful.
+/// Each event keeps a world lawful, be it one that does something there or not.
 pub fn each_event_keeps()
     ensures { (m : Machine) (w : World) (event : Event) → IsMachine m → Lawful m w → Lawful m (happens m w event) }
 {}
@@ -48,8 +48,8 @@ pub fn capacity_stays()
         → reserved (sequenced m now log message) ≤ m.capacity }
 {}
 
-/// What a thread knows between two locks, while others make the log longer, suffices for what it does next: the log stays genuine with its request,
-/// response or verdict, and a job's response is the one owed. And every beginning of a genuine log is genuine.
+/// What a thread knows between two locks suffices for what it does next, while others make the log longer: the log stays genuine with its request,
+/// response or verdict, and the response that it made of a job is the one owed. And every beginning of a genuine log is genuine.
 pub fn halves_land()
     ensures request { (m : Machine) (now before : ℕ) (list log : List Entry) (what : Submission) (q : Request)
         → IsMachine m
@@ -74,8 +74,8 @@ pub fn halves_land()
     ensures beginning { (m : Machine) (log : List Entry) (n : ℕ) → GenuineLog m log → GenuineLog m (take n log) }
 {}
 
-/// Passes end: after as many as there are responses and verdicts left to come (`left`), a further one appends nothing, and the log is settled,
-/// genuine and within its capacity. A log to which a pass appends nothing is settled.
+/// Passes end: after as many as there are responses and verdicts left to come (`left`), or more, a further one appends nothing, and after `left` the
+/// log is settled. A log to which a pass appends nothing is settled. Passes keep a log genuine and within its capacity.
 pub fn passes_settle()
     ensures settled { (m : Machine) (now : ℕ) (paused : List ParticipantId) (held : Bool) (log : List Entry)
         → Settled m paused held (passes m now paused held (left m.hosts log) log) }
@@ -93,7 +93,7 @@ pub fn passes_settle()
         → reserved (passes m now paused held n log) ≤ m.capacity }
 {}
 
-/// The messages of a ready participant's turn leave the log that the messages that are due of it leave.
+/// The messages that a ready participant, which has read n entries, appends in its turn leave the same log as the responses that are due of it (`due`).
 pub fn turn_appends_what_is_due()
     ensures { (m : Machine) (now : ℕ) (p : ParticipantId) (log : List Entry) (n : ℕ) (node : NodeState)
         → GenuineLog m log
@@ -103,8 +103,8 @@ pub fn turn_appends_what_is_due()
         → append_each m now log (turn_messages m p log node) ≡ append_each m now log (due m log p) }
 {}
 
-/// What is left of a turn after one claim, one response sent or one verdict taken is the rest of it, and nothing is left where there is none to
-/// take. So a loop that takes them one by one does what the turn says.
+/// A turn is its first claim, response or verdict and then the rest of the turn, and where there is none to take it is at its end. So a loop that takes
+/// them one by one does what the definitions of a turn say.
 pub fn one_by_one()
     ensures claim { (reading : Reading) (params : Params) (p : ParticipantId) (node : NodeState) (k : ℕ)
         → next_claim reading params p node ≡ Some k
@@ -128,7 +128,8 @@ pub fn one_by_one()
         → verdict_messages given (cases_of params log) ≡ [] }
 {}
 
-/// After its turn a participant is ready, whatever it has claimed (`own`); and messages of others, no requests among them, leave it so.
+/// A participant is ready after the responses that are due of it were handed in, whatever it has claimed (`own`); and messages of others, no requests
+/// among them, leave it so.
 pub fn ready_stays()
     ensures own { (m : Machine) (now : ℕ) (p : ParticipantId) (log : List Entry) (node : NodeState) → IsReady m p (append_each m now log (due m log p)) node }
     ensures others { (m : Machine) (p : ParticipantId) (log more : List Entry) (node : NodeState)
@@ -138,8 +139,8 @@ pub fn ready_stays()
         → IsReady m p (log ++ more) node }
 {}
 
-/// What the participants append in their own turns is what a pass has of them; and after it each that isn't paused is ready again, whatever it has
-/// claimed.
+/// The turns of all participants, one after another, make the log that the responses due of them make (`replies_below`), where each that isn't paused
+/// is as `MayTurn` asks; and after it each of these is ready again, whatever it has claimed.
 pub fn turns_are_a_pass()
     ensures turns { (m : Machine) (now : ℕ) (paused : List ParticipantId) (nodes : ParticipantId → NodeState) (log : List Entry)
         → IsReading m.reading
@@ -160,7 +161,8 @@ pub fn mediator_appends_what_is_due()
         → append_each m now log (verdict_messages given (cases_of m.params log)) ≡ append_each m now log (due_verdicts m log) }
 {}
 
-/// The mediator is ready after its turn (`own`), and messages of others leave it so, if it has given only what is decided.
+/// The mediator is ready after the verdicts that are due were handed in (`own`), and messages of others leave it so, if it has given only what is
+/// decided.
 pub fn mediator_ready_stays()
     ensures own { (m : Machine) (now : ℕ) (log : List Entry) (given : List ℕ)
         → ((k : ℕ) → has_place given k ≡ true → (d : Decision) × (scan m.params log k ≡ Some d))
@@ -172,12 +174,12 @@ pub fn mediator_ready_stays()
         → IsMediatorReady params (log ++ more) given }
 {}
 
-/// After the first stage of settling, in which what was lost is put back, a lawful world is ready.
+/// After the first stage of settling (`resumed_world`), in which what was lost is put back, a lawful world is ready.
 pub fn resuming_makes_ready()
     ensures { (m : Machine) (paused : List ParticipantId) (w : World) → Lawful m w → WorldReady m paused (resumed_world m w) }
 {}
 
-/// After catching up every participant has read the whole log, and the world is as lawful as before.
+/// After catching up (`caught_up_world`) every participant has read the whole log, and the world is as lawful as before.
 pub fn catching_up_keeps()
     ensures lawful { (m : Machine) (w : World) → Lawful m w → Lawful m (caught_up_world m w) }
     ensures node { (m : Machine) (w : World) (p : ParticipantId) (node : NodeState)
@@ -186,9 +188,8 @@ pub fn catching_up_keeps()
         → NodeHas m p w.log node }
 {}
 
-/// How a pass goes over a ready world. It begins with participant 0; each participant has its turn, after which its state is any one over what it
-/// has read, or is skipped where it is paused; then comes the mediator, unless verdicts are held. The log is then that of a pass, and the world
-/// ready.
+/// How a pass goes over a ready world. It begins with participant 0; each participant is skipped where it is paused, or has its turn, after which its
+/// state may be any that `NodeHas` allows; then comes the mediator, unless verdicts are held. The log is then that of a pass, and the world ready.
 pub fn a_pass_over_a_world()
     ensures begins { (m : Machine) (paused : List ParticipantId) (w : World) → WorldReady m paused w → PassedTo m paused w.log 0 w }
     ensures turn { (m : Machine) (paused : List ParticipantId) (began : List Entry) (p : ParticipantId) (w : World) (node after : NodeState)
@@ -258,7 +259,7 @@ pub fn outcome_stays()
         → outcome_of (timeline_of (log ++ more)) k after ≡ Decided d }
 {}
 
-/// In a settled log whose verdicts aren't held, the request at place k is approved if nothing hinders it.
+/// In a genuine settled log whose verdicts aren't held, the request at place k is approved if nothing hinders it (`Unhindered`).
 pub fn unhindered_is_approved()
     ensures { (m : Machine) (paused : List ParticipantId) (log : List Entry) (k : ℕ)
         → IsReading m.reading
@@ -268,8 +269,9 @@ pub fn unhindered_is_approved()
         → outcome_of (timeline_of log) k (decision_time_of m.params log k) ≡ Decided Approved }
 {}
 
-/// The results of one thread's submissions of a round, in order, are right as a run says it, over the log `all` with whatever comes after. The log
-/// in which they begin is of at least `start` entries, and its requests are raw ones or of earlier Sent results.
+/// The results (`answers`) that one thread gives a round's submissions, in order, are right (`ResultsHold`) over the log `all`, which is the log that
+/// they leave with whatever comes after. They begin behind `log`, which has at least `start` entries; its requests are raw ones or of `earlier` Sent
+/// results.
 pub fn one_thread_answers<F>()
     ensures { (m : Machine) (why : Why F) (now : ℕ) (round : Round) (raws : List Request) (all : List Entry) (start : ℕ) (log after more : List Entry)
         (answers earlier : Results F)
@@ -327,14 +329,14 @@ pub fn duplicates_are_exact<F>()
         → result ≡ Refused (Duplicate place) (read_of result) }
 {}
 
-/// A part as one thread plays it, with its results, is right as a run says it of parts.
+/// A part as one thread plays it, with its results, is right as a run says it of parts (`PartHolds`).
 pub fn one_thread_part<F>()
     ensures { (m : Machine) (why : Why F) (now : ℕ) (round : Round) (results : Results F) (before after : List Entry)
         → PlainPart m why now round results before after
         → PartHolds m now round results before after }
 {}
 
-/// Rounds as one thread plays them from the empty log on are right as a run says it.
+/// Rounds as one thread plays them, from the empty log on, make a run that is right (`RunHolds`).
 pub fn one_thread_run<F>()
     ensures { (m : Machine) (why : Why F) (rounds : List (RoundAnswers F)) (log : List Entry)
         → IsMachine m
@@ -342,7 +344,8 @@ pub fn one_thread_run<F>()
         → RunHolds m why log rounds }
 {}
 
-/// In a short part whose verdicts aren't held a request at place k of it that all approve is approved, be it a submitted or a raw one.
+/// In a part whose verdicts aren't held a request at place k of it, submitted or raw, that all approve is approved, if the log has at most as many
+/// entries from k to the part's end as the response timeout has microseconds.
 pub fn short_part_approves<F>()
     ensures { (m : Machine) (now : ℕ) (round : Round) (results : Results F) (before after : List Entry) (k : ℕ)
         → IsReading m.reading
@@ -355,7 +358,8 @@ pub fn short_part_approves<F>()
         → outcome_of (timeline_of after) k (decision_time_of m.params after k) ≡ Decided Approved }
 {}
 
-/// Every genuine log has what `Headline` says, if its reading is one (`IsReading`).
+/// Of every genuine log, of a reading that is one (`IsReading`), holds what `Headline` says: what is said of rejections, timeouts and expiries is so,
+/// and where no hashes collide the approved requests are one ledger.
 pub fn headline_of_genuine_log()
     ensures { (reading : Reading) (params : Params) (log : List Entry) → IsReading reading → Genuine reading params log → Headline reading params log }
 {}
@@ -376,7 +380,7 @@ pub fn headline_of_events()
     ensures { (m : Machine) (events : List Event) → IsMachine m → Headline m.reading m.params (played m (new_world m) events).log }
 {}
 
-/// In a run the requests that all approve, in short parts whose verdicts aren't held, are approved, and stay so.
+/// In a run the requests that all approve, in short parts whose verdicts aren't held (`RoundsApprove`), are approved at the run's end.
 pub fn run_approves<F>()
     ensures { (m : Machine) (why : Why F) (log : List Entry) (rounds : List (RoundAnswers F))
         → IsReading m.reading
@@ -384,7 +388,7 @@ pub fn run_approves<F>()
         → RoundsApprove m log 0 rounds }
 {}
 
-/// The premises of the laws can be met, and the definitions compute: the events of `Example.antt` make the log of the model's example.
+/// The premises of the laws can be met, and the definitions compute: the events of `Example.antt` make the log of the example of `canton_model`.
 pub fn example()
     ensures machine { IsMachine Example.machine }
     ensures log { (played Example.machine (new_world Example.machine) Example.events).log ≡ model.log }

@@ -15,8 +15,8 @@ use Rattle.world_play.specs.Results.{result_of}
 use Rattle.world_play.specs.Parts.{IsParticipant}
 use Rattle.world_play.specs.Submitting.{CanSubmit}
 
--- The node is the participant of the submission `what` and one of the topology, it has read a beginning of the sequencer's log, and the submission names
--- only parties of the topology. That is the premise of `answer`.
+-- What `answer` asks: the node is the participant of the submission `what` and one of the topology, it has read a beginning of the sequencer's log,
+-- which is genuine, the topology is valid, and the packages and the submission name only parties of it.
 pub record CanAnswer (m : Machine) (node : NodeValue) (what : Submission) (sequencer : Sequenced) : Type 0 where
   pub is : IsParticipant m what.participant node sequencer
   pub is_host : what.participant < length (node.topology).hosts

@@ -14,7 +14,8 @@ use Rattle.node_core.specs.Participant.{Participant as NodeValue}
 use Rattle.node_core.specs.Machines.{IsNodeOf}
 use Rattle.node_core.specs.OverLog.{HasInbox, inbox_over, state_over}
 
--- The node is participant p of the machine, and has read the first `read` entries of the sequencer's log, which is genuine.
+-- The node is participant p of the machine, and has read the first `read` entries of the sequencer's log, which is genuine and within the machine's
+-- capacity.
 pub record IsParticipant (m : Machine) (p : ParticipantId) (node : NodeValue) (sequencer : Sequenced) : Type 0 where
   pub is_reading : IsReading m.reading
   pub is_for : IsFor m sequencer
@@ -35,7 +36,8 @@ pub record GoesOn (before after : Sequenced) : Type 0 where
   pub more : List Entry
   pub is_more : after.list ≡ before.list ++ more
 
--- The mediator has read the first n entries of the sequencer's log, which is genuine, and keeps what the state has of requests without a verdict.
+-- The mediator has read the first n entries of the sequencer's log, which is genuine and within the machine's capacity, and keeps what the state has of
+-- requests without a verdict.
 pub record IsMediator (m : Machine) (state : MediatorState) (n : ℕ) (mediator : KeptMediator) (sequencer : Sequenced) : Type 0 where
   pub is_for : IsFor m sequencer
   pub behind : SequencerBehind m sequencer.list

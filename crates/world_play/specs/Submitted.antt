@@ -33,8 +33,8 @@ abbrev pub IsOutOfMemory : Result LogPrefix SubmitRefusal → Type 0
 IsOutOfMemory (Ok slip) = ⊥
 IsOutOfMemory (Err refusal) = refusal.fault ≡ Memory
 
--- A submission to the first world has this answer, and makes the second world: the answer and the log after it are those of the submission's participant,
--- in whatever round has just these participants paused.
+-- The submission `what`, made to the lawful world `before`, has this answer and makes the world `after`: the answer and the log after it are those of
+-- the submission's participant, in whatever round pauses just the participants that are paused in `before`.
 abbrev pub IsAnsweredBy : SubmitResult → World → Submission → World → Type 0
 IsAnsweredBy answer before what after =
     (m : Machine) (state : MediatorState) (topology : Topology) (packages : Packages) (round : Round) → IsWorldOf m state before

@@ -22,7 +22,7 @@ wanted_of log what now (Some node) =
     if (node.state).is_paused then None else wanted_request node.topology node.packages what (inbox_over log node) now
 
 -- The submission is this participant's, the topology is valid, and the packages, the contracts that the participant offers and the submission name only
--- parties of the topology: what `Node::prepare` asks.
+-- parties of the topology. Under this `Node::prepare` gives the wanted request.
 pub record CanPrepare (node : NodeValue) (what : Submission) : Type 0 where
   pub own : what.participant ≡ node.me
   pub valid : IsValid node.topology

@@ -9,7 +9,8 @@ use Rattle.world_play.specs.Worlds.{world_with, AreNodesOf, IsMediatorOf}
 abbrev pub world_of : MediatorState → World → WorldState
 world_of state world = world_with world.now state (world.nodes).items world.sequencer
 
--- The synchroniser stands for a world of this machine: its nodes are the machine's participants, and its mediator keeps the state.
+-- The synchroniser stands for a world of this machine: each of its nodes is the machine's participant with its index and has read a beginning of the
+-- log, and its mediator keeps the state.
 pub record IsWorldOf (m : Machine) (state : MediatorState) (world : World) : Type 0 where
   pub nodes : AreNodesOf m (world.nodes).items world.sequencer
   pub mediator : IsMediatorOf m state world.mediator

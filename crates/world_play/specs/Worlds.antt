@@ -16,7 +16,7 @@ use Rattle.node_core.specs.OverLog.{HasInbox, inbox_over, state_over}
 abbrev pub world_with : (now : ℕ) → MediatorState → List NodeValue → Sequenced → World
 world_with now mediator nodes sequencer = record { log = sequencer.list; now = now; mediator = mediator; nodes = map (state_over sequencer.list) nodes }
 
--- the nodes are the machine's participants, in the order of the topology, and each has read a beginning of the log
+-- each node is the machine's participant with the index of its place in the list, and has read a beginning of the log; the machine is the sequencer's
 pub record AreNodesOf (m : Machine) (nodes : List NodeValue) (sequencer : Sequenced) : Type 0 where
   pub is_reading : IsReading m.reading
   pub is_for : IsFor m sequencer

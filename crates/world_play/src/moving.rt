@@ -161,8 +161,8 @@ fn move_slice<'r>(
     Ok(())
 }
 
-/// The participant whose index is `at` does what the event says. Nothing happens where there is no such participant, or it has nothing to do. After want
-/// of memory a job may be left claimed.
+/// The participant whose index is `at` does the action: it reads one entry, checks one request, sends or loses one response, or is paused or no longer.
+/// Nothing happens where there is no such participant, or it has nothing to do. After want of memory a job may be left claimed.
 pub fn move_node<'r>(
     alloc: Global,
     natives: &'r NativeList,

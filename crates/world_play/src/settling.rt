@@ -52,11 +52,9 @@ fn pass_until_settled<'r>(
     }
 }
 
-/// First what was lost, or claimed and left, comes again: each participant puts back each request that it has read, that is undecided and that lacks its
-/// response, and the mediator is given back its verdict on each undecided request that it has read. Then come passes until one appends nothing.
-/// In a pass each participant that isn't paused, in order, reads to the end, finishes its jobs and sends its responses, and then the mediator reads to
-/// the end and, unless `hold_verdicts`, hands in its verdicts. A message that stands in the log already, or comes too late, is dropped. After want of
-/// memory the log may have gone on.
+/// First each participant puts back each undecided request that it has read and that lacks its response, and the mediator is given back its verdict on
+/// each undecided one that it has read. Then come passes until one appends nothing: whoever isn't one of `paused` has a turn, and then the mediator,
+/// which hands in no verdicts where `hold_verdicts`. After want of memory the log may have gone on.
 pub fn settle<'r>(
     alloc: Global,
     natives: &'r NativeList,

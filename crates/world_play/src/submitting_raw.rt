@@ -16,8 +16,8 @@ use seq_log::{AppendFault, AppendRefusal};
 use std::alloc::AllocError;
 
 impl<'r> World<'r> {
-    /// Hands in a request, whoever made it, and gives its entry's slip. It is appended exactly where no request of its sender and command stands in the
-    /// log yet, it is framed and the log has room for it. A refusal says why, and has the request; then all is as before.
+    /// Hands in a request, whoever made it, and gives its entry's slip. It is appended where no request of its sender and command stands in the log
+    /// yet, it is framed and the log has room for it, unless memory is wanting. A refusal says why, and has the request; then all is as before.
     pub fn submit_raw(&mut self, request: Request) -> Result<Slip<'r>, AppendRefusal>
         ensures on { GoesOn self.old.sequencer self.new.sequencer }
         ensures now { self.new.now ≡ self.old.now }

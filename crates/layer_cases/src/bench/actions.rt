@@ -51,7 +51,7 @@ fn put_encoded(action: &Action, bytes: &mut Bytes, out: &mut Answer) {
     }
 }
 
-/// Decodes the actions that bytes spell and encodes each. How many they are.
+/// Decodes the actions that bytes spell and encodes each. The result is how many there are.
 fn encode_again(alloc: Global, bytes: &[u8], again: &mut Bytes, out: &mut Answer) -> u64 {
     let mut actions = 0u64;
     let mut at = 0;
@@ -65,7 +65,8 @@ fn encode_again(alloc: Global, bytes: &[u8], again: &mut Bytes, out: &mut Answer
     actions
 }
 
-/// Decodes the action that bytes spell from a place on, and encodes it. The place after it.
+/// Decodes the action that bytes spell from a place on, and encodes it. The result is the place after it, or the end of the bytes where they spell
+/// none.
 fn encode_at(alloc: Global, bytes: &[u8], at: usize, again: &mut Bytes, out: &mut Answer) -> usize
     requires { at < length bytes.now }
 {

@@ -13,8 +13,8 @@ const OF_CHANGE: u64 = 9;
 /// More bytes than a bucket's ids have.
 const MOST: usize = 8192;
 
-/// Makes as many hashes as the change of one id takes, of strings as long: one of a bucket with so many ids, and one of two hashes at
-/// each level.
+/// Makes as many hashes as the change of one id takes in a tree of commitments, of strings as long: one of a bucket with `ids` ids, and one of two
+/// hashes at each level.
 fn hash_change(last: Hash, zeros: &[u8], ids: usize) -> Hash {
     // the tag and the salt before it are 33 bytes, a bucket's tag and count are 5
     let length = ids.saturating_mul(32).saturating_sub(28);
@@ -51,6 +51,7 @@ fn hash_removes(counts: &mut [usize; 256], zeros: &[u8], count: u64, first: Hash
     last
 }
 
+/// Zeros, of which the strings are made.
 fn made_zeros(alloc: Global) -> Result<Vec<u8>, AllocError> {
     let mut zeros = Vec::new(alloc);
     for _ in 0..MOST {

@@ -5,7 +5,7 @@ use hash_id::contract_id_of_bytes;
 use ledger_terms::Hash;
 use std::alloc::{AllocError, Global};
 
-/// Adds so many ids, each the hash of the one before. Gives the last of the roots after each.
+/// Adds so many ids, each the hash of the one before, and asks for the root after each. The result is the last root.
 fn add_each(tree: &mut CommitTree, count: u64) -> Result<Hash, AllocError> {
     let mut id = Hash([0; 32]);
     let mut root = tree.root();
@@ -17,7 +17,7 @@ fn add_each(tree: &mut CommitTree, count: u64) -> Result<Hash, AllocError> {
     Ok(root)
 }
 
-/// Takes the same ids out again. Gives the last of the roots after each.
+/// Takes the same ids out again, and asks for the root after each. The result is the last root.
 fn remove_each(tree: &mut CommitTree, count: u64) -> Hash {
     let mut id = Hash([0; 32]);
     let mut root = tree.root();

@@ -13,7 +13,7 @@ const INSTANCE: [u8; 31] = [90; 31];
 /// The last hash, and how many there were.
 type Hashed = (Hash, u64);
 
-/// The salt and the hash of a leaf that is shown, where the last hash is its seed.
+/// Makes the salt and the hash of a leaf that is shown, from the last hash on.
 fn hash_leaf(kind: u8, leaf: &Leaf, hashed: Hashed) -> Hashed {
     let (last, count) = hashed;
     match leaf {
@@ -26,7 +26,7 @@ fn hash_leaf(kind: u8, leaf: &Leaf, hashed: Hashed) -> Hashed {
     }
 }
 
-/// The leaves and the hash of each vertex, as if one stood below it.
+/// Makes the hashes of some vertices and of their leaves, as if one vertex stood below each.
 fn hash_beside(vertices: &VertexList, hashed: Hashed) -> Hashed {
     let mut hashed = hashed;
     for vertex in vertices.as_slice() {

@@ -8,7 +8,7 @@ use script_read::Script;
 use std::alloc::Global;
 use view_split::{Views, split};
 
-/// The script of a transfer, whose second round has it, and the contracts that are known before it.
+/// The script of a transfer, whose first round makes a debt and whose second round transfers it, and the contracts that are known between them.
 #[derive(Drop)]
 pub(crate) struct Transfer {
     pub(crate) script: Box<Script>,
@@ -19,7 +19,7 @@ pub(crate) struct Transfer {
 /// the contract, a salt and a hash for each of the six leaves, and a hash for each of the two views.
 const TO_MAKE: u64 = 3 + 1 + 6 + 6 + 2;
 
-/// Alice's transfer of the Bank's debt to Carol, where the debt was made.
+/// Alice's transfer of the Bank's debt to Carol, with the debt made already. None: the script or its first transaction couldn't be made.
 pub(crate) fn worked_transfer(alloc: Global, out: &mut Answer) -> Option<Transfer> {
     let script = script_in(alloc, TRANSFER, out)?;
     let mut known = KnownList::new(alloc);
@@ -28,26 +28,26 @@ pub(crate) fn worked_transfer(alloc: Global, out: &mut Answer) -> Option<Transfe
     Some(Transfer { script, known })
 }
 
-/// The first submission of a round.
+/// The first submission of the round with this number.
 fn submitted(script: &Script, round: usize) -> Option<&Submission> {
     let round = script.rounds.get(round)?;
     round.submits.get(0)
 }
 
 impl Transfer {
-    /// The transfer itself.
+    /// The submission that transfers the debt.
     pub(crate) fn submission(&self) -> Option<&Submission> {
         submitted(&self.script, 1)
     }
 
-    /// The views of its transaction, made from its command.
+    /// The views of the transfer's transaction, made anew from its command.
     pub(crate) fn views(&self, alloc: Global, out: &mut Answer) -> Option<Views> {
         let submission = self.submission()?;
         let tx = transaction_of(alloc, &self.script, &self.known, submission, out)?;
         split(alloc, &self.script.checked, &tx).ok()
     }
 
-    /// Its request, made from its command.
+    /// The transfer's request, made anew from its command.
     pub(crate) fn request(&self, alloc: Global, out: &mut Answer) -> Option<Request> {
         let views = self.views(alloc, out)?;
         sealed(

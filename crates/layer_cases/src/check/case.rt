@@ -11,8 +11,8 @@ use futures::test::MockTask;
 use request_track::Tracker;
 use std::alloc::{AllocError, Global};
 
-/// The tracker and the store that lines call, and plain lists that follow the same requests. Each has a box, since what holds one
-/// by value is dear to prove.
+/// The tracker and the store that lines call, and plain lists that are kept beside them for comparison. Each has a box, since what holds one by value
+/// is dear to prove.
 #[derive(Drop)]
 pub(crate) struct Cases {
     pub(crate) tracker: Box<Tracker>,
@@ -56,7 +56,7 @@ impl Cases {
         }
     }
 
-    /// Begins anew, with nothing read.
+    /// Makes all three anew, with nothing read.
     fn renew(&mut self, alloc: Global, line: &str, out: &mut Answer) {
         match Cases::new(alloc) {
             Ok(cases) => *self = cases,

@@ -45,6 +45,7 @@ pub(crate) fn put_job(alloc: Global, task: &MockTask, mut words: Words<'_>, out:
     }
 }
 
+/// Reads the script's last request as the participant does, and puts the polls of its job at the end.
 fn put_received(
     alloc: Global,
     task: &MockTask,
@@ -99,6 +100,7 @@ fn input_of<'s>(
     }
 }
 
+/// Puts the polls of a job at the end, where all of the views can be checked.
 #[tactic(auto, using(crate::proofs::Each::all_of_each))]
 fn put_checked(
     alloc: Global,

@@ -4,7 +4,7 @@ use contract_store::{Store, StoreRow};
 use request_track::Tracker;
 use std::alloc::{AllocError, Global};
 
-/// A contract with the first requests that created and that consumed it.
+/// A contract by its number, with the places of the first requests that created and that consumed it.
 #[derive(Clone, Copy)]
 struct PlainRow {
     number: u64,
@@ -13,6 +13,7 @@ struct PlainRow {
 }
 
 impl PlainRow {
+    /// Notes that the request at a place does this to the contract.
     fn write(&mut self, change: Change, place: u64) {
         match change {
             Change::Create => self.created = Some(self.created.unwrap_or(place).min(place)),
@@ -21,6 +22,7 @@ impl PlainRow {
         }
     }
 
+    /// Whether a store's row is that of the same contract and has the same places.
     fn is_like(&self, row: &StoreRow) -> bool {
         row.known.id == id_of(self.number)
             && row.known.salt == salt_of(self.number)
@@ -36,7 +38,8 @@ struct PlainHold {
     place: u64,
 }
 
-/// The contracts in the order in which they were met, the requests that aren't decided, and how many places were read.
+/// What a store and a tracker keep, as plain lists: the contracts in the order in which they were met, the requests that aren't decided, and how many
+/// places were read.
 #[derive(Drop)]
 pub(crate) struct Plain {
     rows: Vec<PlainRow>,
@@ -71,12 +74,12 @@ impl Plain {
         Ok(())
     }
 
-    /// The request at a place is decided.
+    /// Notes that the request at a place is decided, so that it holds nothing any more.
     pub(crate) fn settle(&mut self, place: u64) {
         self.holds.retain(|hold| hold.place != place);
     }
 
-    /// The request at a place creates or consumes a contract.
+    /// Notes that the request at a place creates or consumes the contract with this number.
     pub(crate) fn write(
         &mut self,
         change: Change,
@@ -99,7 +102,7 @@ impl Plain {
         Ok(())
     }
 
-    /// Whether a store and a tracker tell the same.
+    /// Whether a store and a tracker tell the same as these lists.
     pub(crate) fn is_like(&self, store: &Store, tracker: &Tracker) -> bool {
         tracker.cursor() == self.read
             && tracker.clean() == self.clean()
@@ -107,7 +110,7 @@ impl Plain {
             && self.has_holds_of(store)
     }
 
-    /// The least place of a request that isn't decided.
+    /// The clean place: the least place of a request that isn't decided, or how many places were read.
     fn clean(&self) -> u64 {
         let mut clean = self.read;
         for hold in self.holds.iter() {
@@ -116,6 +119,7 @@ impl Plain {
         clean
     }
 
+    /// Whether a store has just these contracts, in this order.
     fn has_rows_of(&self, store: &Store) -> bool {
         for (at, row) in self.rows.iter().enumerate() {
             match store.row(at) {

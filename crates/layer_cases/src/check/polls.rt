@@ -6,7 +6,7 @@ use futures::task::Poll;
 use futures::test::MockTask;
 use validate_job::{Finished, ValidateJob};
 
-/// Puts the place of a job at the end and how many views it has left, polls it where it has some, and puts what it answers.
+/// Puts the place of a job at the end and how many views it has left; where it has some, polls it once and puts what it answers.
 pub(crate) fn put_poll(task: &MockTask, job: &mut ValidateJob<'_>, out: &mut Answer) {
     out.put("place ");
     out.number(job.place());

@@ -12,7 +12,7 @@ use script_read::Script;
 use std::alloc::{AllocError, Global};
 use view_split::split;
 
-/// What a participant is shown of a request, whom this is from, and what it knows of contracts.
+/// What a participant is shown of a request, who sent it, and what the participant knows of contracts.
 #[derive(Drop)]
 pub(crate) struct Received {
     pub(crate) sender: ParticipantId,
@@ -20,7 +20,8 @@ pub(crate) struct Received {
     pub(crate) facts: IdFactsList,
 }
 
-/// What a participant reads of the last request of a script, with the facts over what all transactions create.
+/// What the participant `me` reads of a script's last request. `facts` says what it knows, by the numbers of the contracts that all transactions
+/// create. None: it receives no request.
 pub(crate) fn receive(
     alloc: Global,
     script: &Script,
@@ -71,7 +72,7 @@ fn put_request(requests: &mut Vec<Request>, request: Request) -> Result<(), Allo
     Ok(())
 }
 
-/// The request of a submission, where it isn't refused. What it creates is known then.
+/// The request of a submission; what it creates is known from then on. None: it is refused, or can't be sealed.
 fn send(
     alloc: Global,
     script: &Script,
@@ -85,7 +86,7 @@ fn send(
     sealed(alloc, &script.topology, submission, &views, out)
 }
 
-/// What a participant is shown of a request, where it is a recipient.
+/// What a participant is shown of a request. None: it is no recipient.
 fn shown_of(
     alloc: Global,
     topology: &Topology,

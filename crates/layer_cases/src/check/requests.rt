@@ -49,7 +49,7 @@ pub(crate) fn follow_all(
     put_told(cases, out);
 }
 
-/// Follows a request at the next place, from its hold to what becomes of it.
+/// Follows a request at the next place: it holds the contract, and then has its outcome, if it has one.
 fn follow(alloc: Global, cases: &mut Cases, asked: Asked) -> Result<(), AllocError> {
     let place = cases.plain.read();
     change_one(alloc, &mut cases.store, Change::Hold, asked.number, place)?;
@@ -62,6 +62,7 @@ fn follow(alloc: Global, cases: &mut Cases, asked: Asked) -> Result<(), AllocErr
     settle(alloc, cases, asked, place)
 }
 
+/// Gives the request at a place its outcome, everywhere; an approved one changes the contract.
 fn settle(alloc: Global, cases: &mut Cases, asked: Asked, place: u64) -> Result<(), AllocError> {
     cases.tracker.settle(place, asked.outcome);
     cases.store.release(place);

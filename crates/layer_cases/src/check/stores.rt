@@ -22,17 +22,19 @@ pub(crate) enum Change {
     Hold,
 }
 
-/// The hash of a contract's number, as its id or its salt.
+/// A hash made of a contract's number, and of `last`, which tells ids from salts.
 fn hash_of(number: u64, last: u8) -> Hash {
     let mut bytes = [last; 32];
     bytes[..8].copy_from_slice(&number.to_be_bytes());
     Hash(bytes)
 }
 
+/// The id of the contract with this number.
 pub(crate) fn id_of(number: u64) -> Hash {
     hash_of(number, 1)
 }
 
+/// The salt of the contract with this number.
 pub(crate) fn salt_of(number: u64) -> Hash {
     hash_of(number, 2)
 }
@@ -81,7 +83,7 @@ fn change_all(
     Ok(())
 }
 
-/// A contract of the template that has the package's name.
+/// The contract with this number, an instance of a template `Note` without fields.
 fn known_of(alloc: Global, number: u64) -> Result<Known, AllocError> {
     let package = Name::read("Note").ok_or(AllocError)?;
     let template = TemplateName {
@@ -113,6 +115,7 @@ pub(crate) fn change_one(
     Ok(())
 }
 
+/// Makes room in the store for a change of the contract, which its calls ask for.
 fn make_ready(alloc: Global, store: &mut Store, known: &Known) -> Result<(), AllocError>
     ensures spare { OnOk result (0 < store.new.spare) }
     ensures id { OnOk result (is_ready store.new.ready known.now.id ≡ true) }

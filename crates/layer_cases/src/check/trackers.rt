@@ -29,7 +29,7 @@ pub(crate) fn call_tracker(
     put_tracker(tracker, place, out);
 }
 
-/// Tracks one more request, where none is tracked at its place.
+/// Tracks one more request with this decision time, where none is tracked at its place.
 pub(crate) fn track(tracker: &mut Tracker, place: u64, decision: u64) -> Result<(), AllocError> {
     if tracker.outcome(place).is_none() {
         return tracker.begin(place, decision);

@@ -17,6 +17,7 @@ pub(crate) fn put_calls(alloc: Global, words: Words<'_>, out: &mut Answer) {
     }
 }
 
+/// The tree after all calls. Puts yes or no for each at the end.
 fn tree_after(alloc: Global, calls: &str, out: &mut Answer) -> Result<CommitTree, AllocError> {
     let mut tree = CommitTree::new(alloc)?;
     for call in calls.split(' ') {
@@ -29,7 +30,7 @@ fn tree_after(alloc: Global, calls: &str, out: &mut Answer) -> Result<CommitTree
     Ok(tree)
 }
 
-/// Whether the id of a call wasn't there and was added, or was there and was taken out.
+/// Whether a call changed the tree: its id wasn't there and was added, or was there and was taken out.
 fn does(alloc: Global, tree: &mut CommitTree, call: &str) -> Result<bool, AllocError> {
     if let Some(digits) = call.strip_prefix("+") {
         return match hash_of(alloc, digits) {
@@ -60,6 +61,7 @@ pub(crate) fn put_difference(alloc: Global, mut words: Words<'_>, out: &mut Answ
     }
 }
 
+/// The first bucket in which the trees of two sets of ids differ. None: they have one root.
 fn difference(alloc: Global, mine: &str, theirs: &str) -> Result<Option<u8>, AllocError> {
     let mine = tree_of(alloc, mine)?;
     let theirs = tree_of(alloc, theirs)?;

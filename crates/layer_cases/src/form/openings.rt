@@ -16,8 +16,8 @@ struct Asked {
     requesters: bool,
 }
 
-/// Puts what bytes open at the end: the hash of the tree, the paths of the views that are seen or a line where there are none, whether the
-/// requesters are asked for, and the bytes.
+/// Puts at the end what bytes open to who sees some views. The words are the hash of the tree, the paths of these views or `-` where there are none,
+/// `yes` where the requesters are asked for, and the bytes.
 pub(crate) fn put_opening(alloc: Global, mut words: Words<'_>, out: &mut Answer) {
     let root = words.next();
     let paths = words.next();
@@ -38,6 +38,7 @@ pub(crate) fn put_opening(alloc: Global, mut words: Words<'_>, out: &mut Answer)
     }
 }
 
+/// The hash that 64 hexadecimal digits spell. None: they spell none, or memory is wanting.
 pub(crate) fn hash_of(alloc: Global, digits: &str) -> Option<Hash> {
     let bytes = hex::decode(alloc, digits).ok()?;
     if bytes.len() != 32 {

@@ -7,7 +7,7 @@ use script_read::Round;
 /// How many submissions are all shown.
 const FEW: usize = 10;
 
-/// How many of more are shown.
+/// How many are shown of more than a few.
 const LAST: usize = 4;
 
 /// Puts a line for a round at the end, and one for each submission that is shown.

@@ -46,7 +46,7 @@ fn put_each(
     write!(out, "{count} entries\n")
 }
 
-// What holds a log by value is dear to prove.
+// Makes a log and appends the raw requests to it. What holds a log by value is dear to prove, so this does no more.
 fn put_log(
     alloc: Global,
     script: &Script,
@@ -71,7 +71,7 @@ fn put_script(
     put_log(alloc, script, capacity, &mut row, out)
 }
 
-// A script that isn't read has no requests.
+// Says that there is no script, whose requests could be appended.
 fn put_fault(fault: &ScriptFault, out: &mut String) -> Result<(), AllocError> {
     match fault {
         ScriptFault::Memory => Err(AllocError),
@@ -79,6 +79,7 @@ fn put_fault(fault: &ScriptFault, out: &mut String) -> Result<(), AllocError> {
     }
 }
 
+/// The answer to such a case, whose words behind the first are `spelled`. None: they spell no case.
 pub(crate) fn append_answer(alloc: Global, spelled: &str) -> Result<Option<String>, AllocError> {
     let Some((name, given)) = spelled.split_once(' ') else {
         return Ok(None);

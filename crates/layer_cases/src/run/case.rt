@@ -10,7 +10,7 @@ pub(crate) struct Case<'a> {
 }
 
 impl<'a> Case<'a> {
-    /// The case that is spelled behind its word.
+    /// The case that the words behind its first one spell. None: they are too few.
     pub(crate) fn read(spelled: &'a str) -> Option<Case<'a>> {
         let (name, rest) = spelled.split_once(' ')?;
         let (given, rest) = rest.split_once(' ')?;

@@ -6,7 +6,7 @@ use std::alloc::Global;
 use std::sync::Arc;
 use std::sync::atomic::{AtomicU64, Ordering};
 
-/// A choice of notes that is run as its text says.
+/// A native of the template of notes, which answers what its own text says and counts how often it is asked.
 #[derive(Drop)]
 pub(crate) struct CountingNative {
     pub(crate) body: Choice,

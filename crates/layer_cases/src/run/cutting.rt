@@ -14,6 +14,7 @@ const NOT_JSON: &str = "canton_cli: script NotJson";
 /// What is told of the end of a run whose script isn't JSON.
 const REFUSED: &str = "status 3\ncanton_cli: script NotJson\n";
 
+/// Whether a run of these bytes ends with the fault NotJson and writes nothing.
 fn is_not_json<R: Threads + Wait + Sync + RandomSource + AllocGlobal>(
     rt: &R,
     alloc: Global,
@@ -28,6 +29,7 @@ fn is_not_json<R: Threads + Wait + Sync + RandomSource + AllocGlobal>(
     Ok(end.as_str() == REFUSED && sink.written().is_empty())
 }
 
+/// The answer to such a case, whose words behind the first are `spelled`. None: they spell no case.
 pub(crate) fn cut_answer<R: Threads + Wait + Sync + RandomSource + AllocGlobal>(
     rt: &R,
     alloc: Global,

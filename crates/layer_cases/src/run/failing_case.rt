@@ -12,7 +12,7 @@ pub(crate) struct FailingCase<'a> {
 }
 
 impl<'a> FailingCase<'a> {
-    /// The case that is spelled behind its word.
+    /// The case that the words behind its first one spell; a call that is no number is 0. None: they are too few.
     pub(crate) fn read(spelled: &'a str) -> Option<FailingCase<'a>> {
         let (name, rest) = spelled.split_once(' ')?;
         let (take, rest) = rest.split_once(' ')?;

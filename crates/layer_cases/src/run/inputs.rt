@@ -3,6 +3,7 @@ use cli_words::WordList;
 use ledger_terms::{Bytes, Text, U64List};
 use std::alloc::{AllocError, Global};
 
+/// The words of the command line that a text has with commas between them.
 pub(crate) fn words_of(alloc: Global, words: &str) -> Result<WordList, AllocError> {
     let mut list = WordList::new(alloc);
     for word in words.split(',') {
@@ -24,7 +25,7 @@ pub(crate) fn bytes_of(alloc: Global, text: &str) -> Result<Bytes, AllocError> {
     Ok(bytes)
 }
 
-/// The call that fails.
+/// The list of calls at which a source or a sink is to fail, which is this one alone; 0 is no call.
 pub(crate) fn only(alloc: Global, call: u64) -> Result<U64List, AllocError> {
     let mut calls = U64List::new(alloc);
     calls.push(call)?;

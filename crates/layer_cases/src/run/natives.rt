@@ -17,7 +17,7 @@ use std::sync::atomic::AtomicU64;
 use std::sync::{Arc, Wait};
 use std::thread::Threads;
 
-/// Runs words with the natives and the rules of the program. What is told of the end.
+/// Runs words with the natives and the rules of the program. The result is what is told of the end.
 pub(crate) fn run_words<R: Threads + Wait + Sync + RandomSource + AllocGlobal, S: Source, K: Sink>(
     rt: &R,
     alloc: Global,
@@ -30,7 +30,8 @@ pub(crate) fn run_words<R: Threads + Wait + Sync + RandomSource + AllocGlobal, S
     run_told(rt, alloc, words, source, sink, natives)
 }
 
-// A function that holds the end of a run by value is dear to prove, so it does nothing else. The program ends soon and doesn't give it back.
+// Runs words and tells the end. A function that holds the end of a run by value is dear to prove, so it does nothing else. The program ends soon and
+// doesn't give it back.
 fn run_told<R: Threads + Wait + Sync + RandomSource + AllocGlobal, S: Source, K: Sink>(
     rt: &R,
     alloc: Global,
@@ -62,7 +63,8 @@ pub(crate) fn program_run<R: Threads + Wait + Sync + RandomSource + AllocGlobal>
     sure_run(rt, &FreeGate, alloc, case, room, natives)
 }
 
-/// Runs a case with a native of Flash, by its own text or by one that does nothing, which counts how often it is asked.
+/// Runs a case with a native of Flash that counts in `asked` how often it is asked: it has the text of Flash where the case says `own`, else one that
+/// does nothing.
 pub(crate) fn counting_run<R: Threads + Wait + Sync + RandomSource + AllocGlobal>(
     rt: &R,
     alloc: Global,

@@ -2,7 +2,7 @@
 use lane_pool::Gate;
 use std::sync::atomic::{AtomicU64, Ordering};
 
-/// The place and the view that somebody came to the gate with.
+/// The place of the request and the number of the view with which somebody came to the gate.
 #[derive(Drop)]
 pub(crate) struct Visit {
     place: AtomicU64,
@@ -53,10 +53,12 @@ impl NotingGate {
         }
     }
 
+    /// How many came to the gate so far.
     pub(crate) fn came(&self) -> u64 {
         self.came.load(Ordering::SeqCst)
     }
 
+    /// Whether somebody else came while the first was held.
     pub(crate) fn have_met(&self) -> bool {
         self.met.load(Ordering::SeqCst) == 1
     }

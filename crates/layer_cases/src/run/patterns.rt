@@ -4,7 +4,7 @@
 //! blank, and `*`, once, for any text.
 use std::alloc::{AllocError, Global};
 
-/// Whether a line is as a pattern spells it.
+/// Whether a line fits one spelling.
 fn fits(line: &str, spelling: &str) -> bool {
     match spelling.split_once('*') {
         Some((beginning, end)) => line.starts_with(beginning) && line.ends_with(end),
@@ -12,6 +12,7 @@ fn fits(line: &str, spelling: &str) -> bool {
     }
 }
 
+/// Whether a line fits one of the spellings of a pattern.
 fn fits_one(line: &str, pattern: &str) -> bool {
     for spelling in pattern.split('|') {
         if fits(line, spelling) {
@@ -21,6 +22,7 @@ fn fits_one(line: &str, pattern: &str) -> bool {
     false
 }
 
+/// How many lines of a text fit a pattern.
 fn count_of(text: &str, pattern: &str) -> u64 {
     let mut count = 0u64;
     for line in text.lines() {

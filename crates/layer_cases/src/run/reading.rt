@@ -9,7 +9,7 @@ use crate::run::told::put_lines;
 use cn_io::{MemSource, ReadFault, ReadSource, Source, SureSource, read_all};
 use std::alloc::{AllocError, Global};
 
-// Puts what the source gives within a limit.
+// Reads the source whole within a limit, and puts what it gives, or how that fails.
 fn put_reading<S: Source>(
     alloc: Global,
     source: &mut S,
@@ -24,7 +24,7 @@ fn put_reading<S: Source>(
     }
 }
 
-// What the source gives within each of the limits.
+// The answer: what the source gives within each of the limits, one after another.
 fn readings<S: Source>(
     alloc: Global,
     source: &mut S,
@@ -37,6 +37,7 @@ fn readings<S: Source>(
     Ok(Some(out))
 }
 
+/// The answer to a case of `mem-source`. None: it has no further word.
 pub(crate) fn mem_source_answer(
     alloc: Global,
     spelled: &str,
@@ -53,6 +54,7 @@ pub(crate) fn mem_source_answer(
     readings(alloc, &mut source, limits)
 }
 
+/// The answer to a case of `sure-source`. None: it has no bytes.
 pub(crate) fn sure_source_answer(
     alloc: Global,
     spelled: &str,
@@ -64,6 +66,7 @@ pub(crate) fn sure_source_answer(
     readings(alloc, &mut source, limits)
 }
 
+/// The answer to a case of `reader`, whose only further word is its limits.
 pub(crate) fn reader_answer(alloc: Global, limits: &str) -> Result<Option<String>, AllocError> {
     let mut source = ReadSource::new(HaltingReader { reads: 0 });
     readings(alloc, &mut source, limits)

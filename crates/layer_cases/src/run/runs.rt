@@ -22,6 +22,7 @@ const PIECE: usize = 16;
 /// Bytes of a text for which there is room where a case doesn't say it.
 const ROOM: usize = 65_536;
 
+/// The answer to a case of `run`, over a source and a sink that fail. None: it has too few words.
 pub(crate) fn run_answer<R: Threads + Wait + Sync + RandomSource + AllocGlobal>(
     rt: &R,
     alloc: Global,
@@ -40,6 +41,7 @@ pub(crate) fn run_answer<R: Threads + Wait + Sync + RandomSource + AllocGlobal>(
     Ok(Some(told))
 }
 
+/// The answer to a case of `surely`. None: it has too few words.
 pub(crate) fn sure_answer<R: Threads + Wait + Sync + RandomSource + AllocGlobal>(
     rt: &R,
     alloc: Global,
@@ -55,6 +57,7 @@ pub(crate) fn sure_answer<R: Threads + Wait + Sync + RandomSource + AllocGlobal>
     Ok(Some(told))
 }
 
+/// The answer to a case of `count`, how many lines fit each pattern. None: it has too few words.
 pub(crate) fn count_answer<R: Threads + Wait + Sync + RandomSource + AllocGlobal>(
     rt: &R,
     alloc: Global,
@@ -70,6 +73,7 @@ pub(crate) fn count_answer<R: Threads + Wait + Sync + RandomSource + AllocGlobal
     Ok(Some(told))
 }
 
+/// The answer to a case of `gate`, what the gate noted. None: it has too few words.
 pub(crate) fn gate_answer<R: Threads + Wait + Sync + RandomSource + AllocGlobal>(
     rt: &R,
     alloc: Global,
@@ -101,6 +105,7 @@ fn put_noted(gate: &NotingGate, out: &mut String) -> Result<(), AllocError> {
     })
 }
 
+/// The answer to a case of `native`, whether the native was asked. None: it has too few words.
 pub(crate) fn native_answer<R: Threads + Wait + Sync + RandomSource + AllocGlobal>(
     rt: &R,
     alloc: Global,

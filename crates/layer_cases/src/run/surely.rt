@@ -40,7 +40,7 @@ pub(crate) fn run_surely<
     run(platform, words, source, sink, natives, rule)
 }
 
-// What is told of the end of such a run.
+// Runs words so, with the rules of the program, and tells the end.
 fn surely_told<R: Threads + Wait + Sync + RandomSource + AllocGlobal, G: Gate + Sync>(
     rt: &R,
     gate: &G,
@@ -57,7 +57,7 @@ fn surely_told<R: Threads + Wait + Sync + RandomSource + AllocGlobal, G: Gate + 
     told
 }
 
-/// What is told of how a case ended, and what was written.
+/// What is told of how a case ended, and the sink with what was written.
 #[derive(Drop)]
 pub(crate) struct SureRun {
     pub(crate) told: String,

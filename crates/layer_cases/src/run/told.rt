@@ -3,7 +3,7 @@ use canton_run::{Finish, line};
 use std::alloc::{AllocError, Global};
 use std::str;
 
-/// The status of a run, and the line for it, where it isn't 0.
+/// The status of a run, and its line on standard error where the status isn't 0.
 pub(crate) fn end_told(alloc: Global, finish: &Finish) -> Result<String, AllocError> {
     let status = finish.status;
     let mut out = format!(in alloc; "status {status}\n")?;
@@ -14,7 +14,7 @@ pub(crate) fn end_told(alloc: Global, finish: &Finish) -> Result<String, AllocEr
     Ok(out)
 }
 
-/// The name of a case, and what is told of its end.
+/// The line with the name of a case, and below it what is told of its end.
 pub(crate) fn named(alloc: Global, name: &str, end: &str) -> Result<String, AllocError> {
     format!(in alloc; "run {name}\n{end}")
 }

@@ -21,6 +21,7 @@ fn put_writings<K: Sink>(sink: &mut K, texts: &str, out: &mut String) -> Result<
     Ok(())
 }
 
+/// The answer to a case of `mem-sink`. None: it has no further word.
 pub(crate) fn mem_sink_answer(alloc: Global, spelled: &str) -> Result<Option<String>, AllocError> {
     let Some((piece, rest)) = spelled.split_once(' ') else {
         return Ok(None);
@@ -35,6 +36,7 @@ pub(crate) fn mem_sink_answer(alloc: Global, spelled: &str) -> Result<Option<Str
     Ok(Some(out))
 }
 
+/// The answer to a case of `sure-sink`. None: it has no further word.
 pub(crate) fn sure_sink_answer(alloc: Global, spelled: &str) -> Result<Option<String>, AllocError> {
     let Some((room, rest)) = spelled.split_once(' ') else {
         return Ok(None);
@@ -49,6 +51,7 @@ pub(crate) fn sure_sink_answer(alloc: Global, spelled: &str) -> Result<Option<St
     Ok(Some(out))
 }
 
+/// The answer to a case of `writer`, whose only further word is its texts.
 pub(crate) fn writer_answer(alloc: Global, texts: &str) -> Result<Option<String>, AllocError> {
     let mut out = format!(in alloc; "sink over a writer\n")?;
     let mut taken = [0; 4];

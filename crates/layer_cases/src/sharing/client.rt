@@ -20,15 +20,15 @@ use sync_shared::{Client, Session, Ticket};
 /// How many turns are taken.
 const TURNS: u32 = 64;
 
-/// What a client leaves that has gone out of use: the slip of the last entry that it had seen, and its ticket where its request was
-/// sent.
+/// What remains of a client that has gone out of use: the slip of the last entry that it had seen, None where it saw none, and its ticket, None where
+/// its request wasn't sent.
 #[derive(Drop)]
 pub(crate) struct Left<'r> {
     pub(crate) last: Option<Slip<'r>>,
     pub(crate) ticket: Option<Ticket<'r>>,
 }
 
-// Whether there is such a participant.
+// Whether the topology has such a participant.
 fn is_host(setup: &Setup, participant: ParticipantId) -> bool
     ensures { result ≡ true → participant < length setup.now.topology.hosts }
 {
@@ -121,7 +121,7 @@ fn ask<'r, S: Session, R: Wait>(
     }
 }
 
-// Turns of the only lane.
+// Takes turns as the only lane, which serves everybody.
 fn take_turns<'r, S: Session, R: Wait + RandomSource + AllocGlobal>(
     rt: &R,
     shared: &Synchroniser<'r, S>,

@@ -22,7 +22,7 @@ pub(crate) struct Kept<'r> {
     pub(crate) ticket: Option<Ticket<'r>>,
 }
 
-/// A new synchroniser.
+/// A new synchroniser, of which no client has a ticket.
 pub(crate) fn begun<'r>(
     alloc: Global,
     setup: &'r Setup,
@@ -42,7 +42,7 @@ pub(crate) fn begun<'r>(
     })
 }
 
-/// Keeps what a sharing left, with its client. Puts at the end whether what that had seen stands in the log.
+/// Keeps what a sharing left, with the ticket of its client. Puts at the end whether the last entry that the client had seen stands in the log.
 pub(crate) fn keep<'r>(
     alloc: Global,
     world: World<'r>,
@@ -61,7 +61,7 @@ pub(crate) fn keep<'r>(
     Ok(Kept { world, ticket })
 }
 
-/// Whether what a client had seen stands in the log.
+/// Whether the last entry that a client had seen stands in the log; so too where it saw none.
 fn stands_in_log<'r>(world: &mut World<'r>, last: Option<Slip<'r>>) -> bool
     requires { InRow (world.old.sequencer).row last }
     ensures { world.new ≡ world.old }

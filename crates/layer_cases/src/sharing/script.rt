@@ -26,7 +26,7 @@ pub(crate) fn parts_of(script: Script) -> (Setup, RoundList)
     (Setup { topology, checked }, rounds)
 }
 
-/// What is submitted first in a round.
+/// The first submission of the round with this number. None: there is no such round, or it has none.
 pub(crate) fn first_of(rounds: &RoundList, round: usize) -> Option<&Submission>
     ensures { IfSome result (λ what. (setup : SetupValue) → NameHosted setup rounds.now
         → AreKnown (is_hosted setup.topology) (parties_in_what what.now.what)) }

@@ -53,7 +53,8 @@ pub(crate) fn put_sharings<R: Wait + RandomSource + AllocGlobal>(
     )
 }
 
-// A synchroniser is shared. A client asks by the ticket of the last client, where there is one, and another one submits.
+// Shares a synchroniser once. A new client asks by the ticket of the last client, where there is one, and another one submits; then the synchroniser
+// is taken back.
 fn share<'r, S: Session, R: Wait + RandomSource + AllocGlobal>(
     rt: &R,
     setup: &Setup,

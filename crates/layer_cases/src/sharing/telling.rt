@@ -13,7 +13,7 @@ pub(crate) fn put_ticket(topology: &Topology, ticket: &Ticket<'_>, out: &mut Ans
     out.put("\n");
 }
 
-/// Puts what a client was told at the end, and how many entries that is by.
+/// Puts at the end what a client was told became of its request, and how many entries of the log that goes by.
 pub(crate) fn put_told(completion: &Completion, out: &mut Answer) {
     match completion {
         Completion::NotYet { read_to } => put_word("undecided", *read_to, out),

@@ -10,7 +10,7 @@ use ledger_terms::{Hash, ParticipantId, Topology};
 use proto_model::envelope_of;
 use std::alloc::Global;
 
-/// A request, and who takes part.
+/// A request, with the topology of those who take part. An index is that of a participant; the one behind them is the mediator's.
 #[derive(Clone, Copy)]
 pub(crate) struct Sent<'a> {
     pub(crate) topology: &'a Topology,
@@ -18,7 +18,7 @@ pub(crate) struct Sent<'a> {
 }
 
 impl<'a> Sent<'a> {
-    /// The word for who has this index, which is the mediator behind the participants.
+    /// The name of who has this index.
     fn name(&self, at: u8) -> &'a str {
         match self.topology.hosts.get(at as usize) {
             Some(host) => host.name.as_str(),
@@ -26,7 +26,7 @@ impl<'a> Sent<'a> {
         }
     }
 
-    /// The bytes that the request has for who has this index.
+    /// The bytes that the request has for who has this index. None: it has no envelope for that participant.
     fn bytes(&self, at: u8) -> Option<&'a [u8]> {
         if at as usize >= self.topology.hosts.len() {
             return Some(self.request.mediator.as_slice());

@@ -20,7 +20,7 @@ pub(crate) fn put_opened(alloc: Global, name: &str, tree: &Tree, out: &mut Answe
     }
 }
 
-/// Puts what is opened at the end of a line and below it.
+/// Puts at the end of a line the sender, the ledger time and the requesters that were opened, and below it a line for each view.
 pub(crate) fn put_tree(opened: &OpenedTree, out: &mut Answer) {
     out.put(" ");
     out.put(opened.sender.as_str());

@@ -6,10 +6,10 @@ use ledger_terms::{Bytes, RawRequest, Topology};
 use proto_model::framed;
 use std::alloc::Global;
 
-/// How many participants have an index.
+/// The most participants whose indices a byte has.
 const MOST_INDICES: usize = 256;
 
-/// Puts a raw request at the end as it is read, and whether it is framed.
+/// Puts a raw request at the end as it was read of the script, and whether it is framed.
 pub(crate) fn put_raw(alloc: Global, topology: &Topology, raw: &RawRequest, out: &mut Answer) {
     out.put("raw ");
     out.host(topology, raw.participant);

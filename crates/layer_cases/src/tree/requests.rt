@@ -23,7 +23,7 @@ pub(crate) fn put_request(
     }
 }
 
-/// The request of a submission's transaction, where the formats have room for it.
+/// The request of a submission's transaction. None: the formats have no room for it, or memory was wanting.
 pub(crate) fn sealed(
     alloc: Global,
     topology: &Topology,
@@ -79,7 +79,7 @@ pub(crate) fn put_confirming(
     out.put("\n");
 }
 
-/// All participants, and the mediator.
+/// All participants, in the order of the topology, and behind them the mediator.
 pub(crate) fn recipients(alloc: Global, topology: &Topology, out: &mut Answer) -> RecipientList {
     let mut recipients = RecipientList::new(alloc);
     let mut at = 0u8;

@@ -6,7 +6,7 @@ use crate::answer::Answer;
 use script_read::{Script, read_script};
 use std::alloc::Global;
 
-/// The script that JSON spells. Where it is refused, puts its first fault at the end.
+/// The script that JSON spells. None: it is refused, and its first fault was put at the end, or memory was wanting.
 pub(crate) fn script_in(alloc: Global, json: &str, out: &mut Answer) -> Option<Box<Script>>
     ensures { IfSome result (λ script. IsAccepted script.value) }
 {

@@ -10,8 +10,7 @@ use script_read::Script;
 use std::alloc::Global;
 use view_split::{SplitFault, split};
 
-/// Puts a submission at the end with all that its transaction shows, or why it has none. The root actions where there are
-/// some.
+/// Puts a submission at the end with all that its transaction shows, or why it has none. The result is its root actions; None: it has no transaction.
 pub(crate) fn put_submission(
     alloc: Global,
     script: &Script,
@@ -26,7 +25,7 @@ pub(crate) fn put_submission(
     Some(tx.roots)
 }
 
-/// The transaction of a submission. Where there is none, puts why at the end.
+/// The transaction of a submission. None: there is none, and why was put at the end.
 pub(crate) fn transaction_of(
     alloc: Global,
     script: &Script,

@@ -38,6 +38,7 @@ enum Tie {
     Confirms,
 }
 
+/// Whether a participant is tied so to one of the parties.
 fn is_tied(topology: &Topology, at: ParticipantId, parties: &PartySet, tie: Tie) -> bool {
     match tie {
         Tie::Hosts => topology.hosts_any(at, parties),

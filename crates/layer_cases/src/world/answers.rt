@@ -59,6 +59,7 @@ fn put_script(
     }
 }
 
+/// Plays a plan and puts what is told then at the end, where its events don't move the time too far.
 fn put_plan(
     alloc: Global,
     task: &MockTask,

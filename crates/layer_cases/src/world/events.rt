@@ -11,7 +11,8 @@ use confirm_reply::Setup;
 use ledger_terms::{ParticipantId, Submission, Topology};
 use world_play::Event;
 
-/// The event that a word says. A submission or a raw request is taken from the front of those that are left.
+/// The event that a word says. A submission or a raw request is taken from the front of those that are left. None: the word says no event, or none of
+/// these is left.
 pub(crate) fn event_of(setup: &Setup, left: &mut HandedIn, word: &str) -> Option<Event>
     requires { All (CanSubmit setup.now.topology setup.now.checked) left.old.submits.items }
     ensures event { IfSome result (CanHappen setup.now.topology setup.now.checked) }
@@ -24,6 +25,7 @@ pub(crate) fn event_of(setup: &Setup, left: &mut HandedIn, word: &str) -> Option
     }
 }
 
+/// The submission of the first that is left, which is taken out. None: none is left.
 #[tactic(auto, using(crate::proofs::Fronts::front_holds, crate::proofs::Fronts::others_hold))]
 fn next_submission(left: &mut Vec<Submission>) -> Option<Event>
     ensures event { (topology : Topology) (packages : Packages) → All (CanSubmit topology packages) left.old.items
@@ -39,6 +41,7 @@ fn next_submission(left: &mut Vec<Submission>) -> Option<Event>
     })
 }
 
+/// The handing in of the first raw request that is left, which is taken out. None: none is left.
 fn next_raw(left: &mut Vec<Request>) -> Option<Event>
     ensures { (topology : Topology) (packages : Packages) → IfSome result (CanHappen topology packages) }
 {
@@ -75,6 +78,7 @@ fn event_with(topology: &Topology, word: &str) -> Option<Event>
     event_at(verb, node)
 }
 
+/// The event of a participant that a word before a colon says.
 fn event_at(verb: &str, node: ParticipantId) -> Option<Event>
     ensures { (topology : Topology) (packages : Packages) → IfSome result (CanHappen topology packages) }
 {
@@ -92,13 +96,13 @@ fn event_at(verb: &str, node: ParticipantId) -> Option<Event>
     }
 }
 
-/// The participant with a name.
+/// The participant with a name. None: the topology has none.
 pub(crate) fn participant_of(topology: &Topology, name: &str) -> Option<ParticipantId> {
     let at = place_of(topology, name)?;
     Some(ParticipantId((at % 256) as u8))
 }
 
-/// The index of the participant with a name.
+/// The index of the participant with a name. None: the topology has none.
 pub(crate) fn place_of(topology: &Topology, name: &str) -> Option<usize> {
     let mut at = 0usize;
     for host in topology.hosts.as_slice() {

@@ -10,14 +10,14 @@ use ledger_terms::{RawRequestList, Submission};
 use script_read::{Round, RoundList};
 use std::alloc::{AllocError, Global};
 
-/// The submissions and the raw requests that are left.
+/// The submissions and the raw requests of a script's first round that events haven't taken yet.
 #[derive(Drop)]
 pub(crate) struct HandedIn {
     pub(crate) submits: Vec<Submission>,
     pub(crate) raws: Vec<Request>,
 }
 
-/// What is handed in in the first round, nothing where there is no round.
+/// All submissions and raw requests of the first round; nothing where there is no round.
 #[tactic(auto, using(crate::proofs::Fronts::nothing, crate::proofs::Fronts::submissions_hold))]
 pub(crate) fn handed_in(alloc: Global, rounds: RoundList) -> Result<HandedIn, AllocError>
     ensures { IfOk result (λ left. (hosts : List Host) (rules : List Rule) → All (IsRound hosts rules) rounds

@@ -20,7 +20,7 @@ use std::alloc::{AllocError, Global};
 use validate_job::Finished;
 use world_play::World;
 
-/// Puts what is told of the next job of the participant at an index at the end.
+/// Puts what is told of the next jobs of the participant at an index at the end.
 pub(crate) fn put_late_in(
     alloc: Global,
     task: &MockTask,
@@ -57,7 +57,7 @@ fn put_late_among(
     Ok(())
 }
 
-// The first job is polled to its end.
+// Polls the first job to its end, and goes on with the second.
 fn put_first(
     alloc: Global,
     task: &MockTask,
@@ -78,7 +78,7 @@ fn put_first(
     put_second(alloc, task, node, sequencer, place, out)
 }
 
-// The second is polled once, and cancelled.
+// Puts the first job back, claims it again as the second, polls that once, goes on with the third, and cancels the second.
 fn put_second(
     alloc: Global,
     task: &MockTask,
@@ -102,7 +102,7 @@ fn put_second(
     Ok(())
 }
 
-// The third has the verdicts when the participant has read an entry more.
+// Puts the second job back and claims it as the third, whose verdicts are all found. Then the participant reads an entry more, and gets them.
 fn put_third(
     alloc: Global,
     node: &mut Node<'_>,
@@ -126,7 +126,7 @@ fn put_third(
     Ok(())
 }
 
-// Since when the request is decided.
+// Puts the place from which on the request is decided, if it is.
 fn put_decided(node: &Node<'_>, place: u64, out: &mut Answer)
     requires { is_some (notice_at (items_of node.now) place) ≡ true }
 {
@@ -136,7 +136,7 @@ fn put_decided(node: &Node<'_>, place: u64, out: &mut Answer)
     }
 }
 
-// What the participant answers to a job's verdicts.
+// Hands a job's verdicts to the participant, and puts what it answers.
 fn put_end(node: &mut Node<'_>, done: Finished, out: &mut Answer)
     requires { done.verdicts ≡ owed_there node.old done.place }
 {

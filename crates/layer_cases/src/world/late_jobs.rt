@@ -14,7 +14,7 @@ use seq_log::Sequencer;
 use std::alloc::{AllocError, Global};
 use validate_job::{Finished, ValidateJob};
 
-/// The job that the participant claims next.
+/// The job that the participant claims next. None: it has none to claim.
 pub(crate) fn claimed<'s>(
     alloc: Global,
     node: &mut Node<'s>,
@@ -28,7 +28,7 @@ pub(crate) fn claimed<'s>(
     node.claim_job(alloc)
 }
 
-/// The claim of a request that the participant owes verdicts to is given up.
+/// Puts back the job of a request that the participant owes verdicts to, so that it can be claimed again.
 pub(crate) fn give_up(node: &mut Node<'_>, place: u64)
     requires { owes_there node.old place ≡ true }
     ensures { (m : Machine) (p : ParticipantId) (log : Sequenced) → IsParticipant m p node.old log → IsParticipant m p node.new log }
@@ -36,7 +36,7 @@ pub(crate) fn give_up(node: &mut Node<'_>, place: u64)
     node.put_back(place);
 }
 
-/// All verdicts of a job.
+/// Finds all verdicts of a job.
 pub(crate) fn finished(job: ValidateJob<'_>) -> Result<Finished, AllocError>
     requires { 0 < job.left }
     ensures { IfOk result (IsOutcome job.entry.given) }

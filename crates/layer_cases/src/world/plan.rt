@@ -27,7 +27,7 @@ pub(crate) struct Asked<'a> {
     pub(crate) words: &'a str,
 }
 
-/// The plan that words with commas between them say, where each says an event.
+/// The plan that words with commas between them say, each an event, the last perhaps `settle`. None: one of them says no event.
 pub(crate) fn plan_of(
     alloc: Global,
     setup: &Setup,
@@ -52,6 +52,7 @@ pub(crate) fn plan_of(
     }
 }
 
+/// The events that words with commas between them say. None: one of them says none.
 #[tactic(auto, using(crate::proofs::Fronts::one_more, crate::proofs::Fronts::nothing))]
 fn events_of(
     alloc: Global,
@@ -73,6 +74,7 @@ fn events_of(
     Ok(Some(events))
 }
 
+/// How far an event moves the time, in microseconds.
 fn advance_of(event: &Event) -> u64
     ensures { result ≡ advance_of event.now }
 {
@@ -82,7 +84,7 @@ fn advance_of(event: &Event) -> u64
     }
 }
 
-/// Whether events move the time by no more than can be played.
+/// Whether events move the time by at most 10^16 microseconds in all, which is as much as can be played.
 pub(crate) fn is_within_time(events: &[Event]) -> bool
     ensures { result ≡ true → advance_in events.now ≤ 10 ^ 16 }
 {

@@ -52,7 +52,7 @@ pub(crate) fn played(
     put
 }
 
-// It settles, where it shall.
+// Settles the synchroniser where the plan says so.
 fn settle_if<'r>(
     alloc: Global,
     natives: &'r NativeList,
@@ -69,7 +69,7 @@ fn settle_if<'r>(
     Ok(())
 }
 
-// Then all participants read to the end, and what they know is told.
+// Settles it if need be, lets all participants read to the end, and puts what they know.
 fn put_end<'r>(
     alloc: Global,
     setup: &Setup,

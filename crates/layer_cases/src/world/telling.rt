@@ -11,7 +11,7 @@ use std::alloc::{AllocError, Global};
 use trigger_rules::CausedList;
 use world_play::World;
 
-/// Puts the report at the end, and whether each participant has applied what is consistent.
+/// Puts the report at the end, and for each participant whether the commits of its log are consistent.
 pub(crate) fn put_told(
     alloc: Global,
     topology: &Topology,
@@ -33,7 +33,7 @@ fn views_of(alloc: Global, nodes: &[Node<'_>]) -> Result<NodeViewList, AllocErro
     Ok(views)
 }
 
-/// Puts the report of a log at the end, of no rounds and so without results.
+/// Puts the report of a log at the end. It is of no rounds, and so has no results.
 pub(crate) fn put_report(
     alloc: Global,
     topology: &Topology,
@@ -65,7 +65,7 @@ fn log_of(alloc: Global, sequencer: &mut Sequencer<'_>) -> Result<EntryList, All
     Ok(log)
 }
 
-/// Puts a line for each participant at the end: whether what it has applied is consistent.
+/// Puts a line for each participant at the end: whether the commits of its log are consistent.
 fn put_consistency(alloc: Global, topology: &Topology, views: &NodeViewList, out: &mut Answer) {
     for (host, view) in topology.hosts.as_slice().iter().zip(views.as_slice()) {
         match find_inconsistent(alloc, &view.commits) {

@@ -52,7 +52,7 @@ vector_in Item kept = kept.items
 abbrev kept_in : (Item : Type 0) → Vec Item Global → Inside Item
 kept_in Item items = record { items = items }
 
--- what the one field of a `ListOf` holds, as a former: what its vector does
+-- the former of the one field of a `ListOf`, its vector: what contracts see of a `ListOf` by its fields
 abbrev the_fields : Former {0}
 the_fields = via (vector.the_former this Global) Inside vector_in kept_in (λ Item kept. refl) (λ Item items. refl)
 
