@@ -18,8 +18,8 @@ roles_after above k (InnerVertex informees contents subviews others) so_far =
     with_read (roles_after (above ++ k ∷ []) 0 subviews (so_far ++ view_roles (above ++ k ∷ []) roles ∷ [])) (λ more. roles_after above (suc k) others more))
 
 -- The list so far, and behind it the informees and confirmers of one view and of all views below it, in order of path. The view is number k below the
--- path `above`, given by its informees leaf and the vertices below it. It is a fault where one of these vertices or their informees leaves can't be
--- read.
+-- path `above`, given by its informees leaf and the vertices below it. It is a fault where that leaf, one of these vertices or an informees leaf of
+-- theirs is blinded or can't be read.
 abbrev pub view_roles_after : List ℕ → ℕ → Leaf → Vertices → List ViewRoles → Result (List ViewRoles) WireFault
 view_roles_after above k informees subviews so_far =
     with_read (read_leaf roles_at informees) (λ roles. roles_after (above ++ k ∷ []) 0 subviews (so_far ++ view_roles (above ++ k ∷ []) roles ∷ []))

@@ -17,7 +17,7 @@ pub record NamedNode : Type 0 where
 abbrev pub counterparty_of : NamedNode → Counterparty
 counterparty_of named = record { number = named.number; name = named.name; knowledge = knowledge_of named.node }
 
--- A list of the one counterparty that the participant p of a host is to others, and an empty one where there is no such participant.
+-- Participant p as others see it, with the name of its host, in a list of one. The list is empty where there is no participant (None).
 abbrev pub counterparty_at : ParticipantId → Host → Option Participant → List Counterparty
 counterparty_at p host None = []
 counterparty_at p host (Some node) = record { number = p; name = host.name; knowledge = knowledge_of node } ∷ []

@@ -24,7 +24,7 @@ agreement_text (Some bucket) = codes "differ " ++ decimal bucket
 abbrev pub agreement : (mine theirs : List (List ℕ)) → List ℕ
 agreement mine theirs = agreement_text (first_difference (set_of mine) (set_of theirs))
 
--- how the line of two participants begins: their names, and the place at which they are compared
+-- how the line of two participants begins: `pair P Q at M`, their names and the place at which they are compared
 abbrev pub place_text : (one other : List ℕ) → (place : ℕ) → List ℕ
 place_text one other place = codes "pair " ++ one ++ codes " " ++ other ++ codes " at " ++ decimal place
 
@@ -58,13 +58,13 @@ place_of one other = min (one.knowledge).clean (other.knowledge).clean
 abbrev pub base_of : (one other : Counterparty) → ℕ
 base_of one other = max (one.knowledge).base (other.knowledge).base
 
--- The line of two participants that are compared at a place. Where that is below the base, which is the greater of both, the line says that one has
--- forgotten what was active there.
+-- The line of two participants that are compared at a place. `base` is the greater of both bases; where the place is below it, the line says instead
+-- that one of them has forgotten what was active there.
 abbrev pub pair_since : Reading → (one other : Counterparty) → (base place : ℕ) → List ℕ
 pair_since reading one other base place =
     if nat_lt place base then pruned_text one.name other.name base else pair_at reading one other place
 
--- the line of two participants, at the place up to which both know the log
+-- The line of two participants, compared at the lesser of their clean places. Where that is below the greater of their bases, the line tells that base.
 abbrev pub pair_text : Reading → (one other : Counterparty) → List ℕ
 pair_text reading one other = pair_since reading one other (base_of one other) (place_of one other)
 

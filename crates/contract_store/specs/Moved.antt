@@ -6,7 +6,7 @@ use Rattle.contract_store.specs.declared.hold.KeptHold.{KeptHold}
 use Rattle.contract_store.specs.Chains.{Link, is_live_at, Chains}
 use Rattle.contract_store.specs.Holds.{link_on, link_at, holds_of}
 
--- an index, where it is below n, and else None
+-- An index where it is below n, and else None: of what a map leads to, what is already among the n items that were moved.
 abbrev pub among : ℕ → Option ℕ → Option ℕ
 among n None = None
 among n (Some i) = if nat_lt i n then Some i else None

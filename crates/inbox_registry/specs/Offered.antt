@@ -33,8 +33,8 @@ OfferedIsNodeActive = (reading : Reading) (party : ParticipantId) (items : List 
     → filter (λ (a : ActiveRow). is_stakeholder_hosted reading party a.known.instance) (active_rows (written (changes_in reading items) []))
     ≡ node_active reading party items (length items)
 
--- What a participant offers after the first n entries of a genuine log without collisions, whose ledger creates no contract twice, are the model's
--- active contracts there. It is the law `offered_of_genuine_log`.
+-- What a participant offers after the first n entries of a genuine log without collisions are the model's active contracts there: in such a log no
+-- contract is created twice. It is the law `offered_of_genuine_log`.
 abbrev pub OfferedOfGenuineLog : Type 0
 OfferedOfGenuineLog = (reading : Reading) (params : Params) (log : List Entry) (party : ParticipantId) (n : ℕ)
     → IsReading reading → NoCollision reading log → Genuine reading params log → n ≤ length log

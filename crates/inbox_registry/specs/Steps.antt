@@ -28,7 +28,7 @@ HoldsFollow before after old new =
     (f : ℕ → List Act) (n : ℕ) → old ≡ holding (placed_below (is_open_at before) f n) → new ≡ holding (placed_below (is_open_at after) f n)
 
 -- What holds between two steps while requests late at `time` expire: `start` and `old` are the tracked requests and the holds before the first step,
--- `pairs` and `new` those now. No others have expired, places and decision times rise as before, and the holds left are those of undecided requests.
+-- `pairs` and `new` those now. No others expired, places and decision times rise as `InStep` says, and holds of the undecided requests are that still.
 pub record Passing (time : ℕ) (start pairs : List Pair) (old new : List Hold) : Type 0 where
   pub rest : expired time pairs ≡ expired time start
   pub in_step : InStep pairs

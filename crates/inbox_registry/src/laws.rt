@@ -14,8 +14,8 @@ pub fn offered_is_active()
     ensures { OfferedIsActive }
 {}
 
-/// After any number of entries of a genuine log without collisions no contract is created twice, so that what its participants offer are the model's
-/// active contracts.
+/// What a participant offers after any number of entries of a genuine log without collisions are the model's active contracts there, since in such a
+/// log no contract is created twice.
 pub fn offered_of_genuine_log()
     ensures { OfferedOfGenuineLog }
 {}

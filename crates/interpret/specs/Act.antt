@@ -90,9 +90,9 @@ by_turn (Stop e) done child = Err e
 by_turn (End v) done child = done v
 by_turn (Child s) done child = child s
 
--- What a source comes to that goes on after these `children`, in at most so many turns (the first argument): `run` runs each child, which `by`
--- authorises, at its path and seed below these. `seen` is known of the children, and the next has this index. Else it is the first fault, and
--- TooMany where the turns are used up.
+-- What a source comes to that goes on after `children`, or the first fault: TooMany where the turns are used up. In order: the turns that are left, the
+-- source, what runs each child, the seed and the path above the children, who authorises them, the progress, what is known of the children (`seen`),
+-- the children, and the index of the next one.
 unfoldable pub follow : ℕ → Source → Runner → Hash → List ℕ → PartyNames → Progress → List ChildResult → Actions → ℕ → Result BodyRun CommandFault
 follow zero source run seed path by progress seen children index = Err (TooMany path)
 follow (suc turns) source run seed path by progress seen children index =
@@ -132,8 +132,8 @@ created_node seed i = record { root = record { seed = seed; action = Create (con
 abbrev pub created_known : Hash → Instance → Known
 created_known seed i = record { id = contract_id seed i; salt = seed; instance = i }
 
--- The Create of an instance and the progress after it, or the first fault: of evaluations, and then Unauthorised. The progress before it
--- counts the action already.
+-- The Create of an instance and the progress after it, or the first fault: of evaluations, and then Unauthorised. In order: the packages, the progress,
+-- which counts this action already, its path, its seed, its authorisers, the instance.
 abbrev pub do_create : Packages → Progress → List ℕ → Hash → PartyNames → Instance → Result (ActionNode × Progress) CommandFault
 do_create packages progress path seed by i =
     on (at_path path (created_signatories packages i)) (λ s. cond (is_subset s by)
@@ -144,7 +144,8 @@ do_create packages progress path seed by i =
 abbrev pub call_of : Known → List ℕ → List Value → ChoiceCall
 call_of k choice args = record { id = k.id; instance = k.instance; choice = choice; args = args }
 
--- the Exercise of a call, with what its body came to below it; the first hash is the action's seed, the second the contract's salt
+-- The Exercise of a call as a tree, with what its body came to below it. In order: the action's seed, the contract's salt, the call, its actors,
+-- whether it is consuming, what its body came to.
 abbrev pub exercised_node : Hash → Hash → ChoiceCall → PartyNames → Bool → BodyRun → ActionNode
 exercised_node seed salt call actors consuming f =
     record {
@@ -152,8 +153,8 @@ exercised_node seed salt call actors consuming f =
       below = f.children;
     }
 
--- The Exercise of a call on a contract with this salt, and the progress after it, or the first fault. A consuming Exercise consumes before its
--- body runs, whose children `run` runs.
+-- The Exercise of a call and the progress after it, or the first fault. A consuming one consumes before its body runs. In order: the packages, what
+-- runs the children, the progress, which counts this action already, its path, its seed, its authorisers, the contract's salt, the call.
 abbrev pub exercise_on : Packages → Runner → Progress → List ℕ → Hash → PartyNames → Hash → ChoiceCall → Result (ActionNode × Progress) CommandFault
 exercise_on packages run progress path seed by salt call =
     on (at_path path (call_controllers packages call)) (λ actors. cond (are_authorised actors by)
@@ -162,7 +163,9 @@ exercise_on packages run progress path seed by salt call =
     Ok (exercised_node seed salt call actors (is_consuming_call packages call) f, f.progress)))
     (Err (Unauthorised path)))
 
--- the Exercise of a choice on a contract that was looked up, and the progress after it, or the first fault: ContractUnknown where it isn't there
+-- The Exercise of a choice on a contract that was looked up, and the progress after it, or the first fault: ContractUnknown where there is no contract.
+-- In order: the packages, what runs the children, the progress before it, its path, its seed, its authorisers, the contract, the choice's name, the
+-- arguments.
 abbrev pub do_exercise : Packages → Runner → Progress → List ℕ → Hash → PartyNames → Option Known → List ℕ → List Value
     → Result (ActionNode × Progress) CommandFault
 do_exercise packages run progress path seed by None choice args = Err (ContractUnknown path)
@@ -173,16 +176,16 @@ do_exercise packages run progress path seed by (Some k) choice args = exercise_o
 abbrev pub fetched_node : Hash → Known → PartyNames → ActionNode
 fetched_node seed k actors = record { root = record { seed = seed; action = Fetch k.id k.salt k.instance actors }; below = NoRoots }
 
--- The Fetch of a contract that was looked up, and the progress after it. The fault is ContractUnknown where it isn't there, and Unauthorised
--- where no stakeholder is among the authorisers.
+-- The Fetch of a contract that was looked up, and the progress after it; ContractUnknown where there is no contract, Unauthorised where no stakeholder
+-- is among the authorisers. In order: the packages, the progress before it, its path, its seed, its authorisers, the contract.
 abbrev pub do_fetch : Packages → Progress → List ℕ → Hash → PartyNames → Option Known → Result (ActionNode × Progress) CommandFault
 do_fetch packages progress path seed by None = Err (ContractUnknown path)
 do_fetch packages progress path seed by (Some k) =
     cond (is_empty (fetchers packages k.instance by)) (Err (Unauthorised path))
     (Ok (fetched_node seed k (fetchers packages k.instance by), with_action progress))
 
--- Runs one action that is asked for, where there is room for it: a Create, an Exercise whose children `run` runs, or a Fetch, of a contract that
--- is usable. It gives the action with its consequences and the progress after it, or the first fault.
+-- What runs one action that is asked for, where there is room for it: a Create, an Exercise whose children `run` runs, or a Fetch; the contract of
+-- these two has to be `usable`. It gives the action with its consequences and the progress after it, or the first fault.
 abbrev pub do_demand : Packages → List Known → Runner → Runner
 do_demand packages known run progress path seed by (CreateDemand t fields) = do_create packages (with_action progress) path seed by
     (record { template = t; fields = fields })
@@ -190,13 +193,13 @@ do_demand packages known run progress path seed by (ExerciseDemand t id choice a
     (usable packages known progress id t) choice args
 do_demand packages known run progress path seed by (FetchDemand t id) = do_fetch packages progress path seed by (usable packages known progress id t)
 
--- Runs one action, whose children `run` runs: TooMany where the transaction has as many actions as it may already, and else as `do_demand`.
+-- What runs one action, whose children `run` runs: TooMany where the transaction has as many actions as it may already, and else as `do_demand`.
 abbrev pub level : Packages → List Known → Runner → Runner
 level packages known run progress path seed by demand =
     cond (nat_le MOST_ACTIONS progress.count) (Err (TooMany path)) (do_demand packages known run progress path seed by demand)
 
--- What runs an action and all below it in so many levels, the first argument; it is TooDeep where there is none. The other two are the packages and
--- the known contracts.
+-- What runs an action and all below it in at most so many levels (the first argument), over these packages and known contracts. It is TooDeep where no
+-- level is left.
 unfoldable pub act : ℕ → Packages → List Known → Runner
 act zero packages known = λ progress path seed by demand. Err (TooDeep path)
 act (suc left) packages known = level packages known (act left packages known)

@@ -12,7 +12,8 @@ use Rattle.interpret.specs.declared.asking.Asking.TheVariants.{Body, Commands}
 use Rattle.interpret.specs.Act.{Source, Turn, turn_of}
 use Rattle.interpret.specs.Commands.{command_turn}
 
--- what is asked for at an index, after what was learnt of the children before (`seen`); `path` leads to the Exercise whose body asks
+-- What is asked for at an index, after what was learnt of the children before. In order: the packages, the known contracts, the path of the Exercise
+-- whose body asks, who asks (a body or commands), the index from 0, what was learnt (`seen`).
 abbrev pub asked_turn : Packages → List Known → List ℕ → Asking → ℕ → List ChildResult → Turn
 asked_turn packages known path (Body call) index seen = turn_of path (next packages call.now seen)
 asked_turn packages known path (Commands commands) index seen = command_turn packages known index (slice_get commands.now index)

@@ -73,7 +73,7 @@ where_there None fault go = Err fault
 where_there (Some x) fault go = go x
 
 -- The Create that the command at index `root` asks for, or its first fault: the template is tried, then the number and kinds of the fields, then the
--- references among them.
+-- references among them. The last two arguments are the template and the fields.
 abbrev pub create_demand : Packages → List Known → ℕ → TemplateName → List Arg → Result Demand CommandFault
 create_demand packages known root template fields =
     where_there (template_in template packages) (UnknownTemplate root) (λ t.
@@ -81,14 +81,16 @@ create_demand packages known root template fields =
     (where_there (referenced_values known fields) (ContractUnknown (root ∷ [])) (λ values. Ok (CreateDemand template values)))
     (Err (BadArgs root)))
 
--- the Exercise that the command at index `root` asks for, whose choice and arguments were tried; ContractUnknown where a label names no known contract
+-- The Exercise that the command at index `root` asks for, whose choice and arguments were tried; ContractUnknown where a label names no known contract.
+-- In order: the known contracts, root, the template, the contract, the choice's name, the arguments.
 abbrev pub called_demand : List Known → ℕ → TemplateName → ContractRef → List ℕ → List Arg → Result Demand CommandFault
 called_demand known root template contract choice args =
     where_there (referenced_id known contract) (ContractUnknown (root ∷ [])) (λ id.
     where_there (referenced_values known args) (ContractUnknown (root ∷ [])) (λ values. Ok (ExerciseDemand template id choice values)))
 
 -- The Exercise that the command at index `root` asks for, or its first fault: the template is tried, the choice, the number and kinds of the arguments,
--- then the references, that to the contract first.
+-- then the references, that to the contract first. In order: the packages, the known contracts, root, the template, the contract, the choice's name,
+-- the arguments.
 abbrev pub exercise_demand : Packages → List Known → ℕ → TemplateName → ContractRef → List ℕ → List Arg → Result Demand CommandFault
 exercise_demand packages known root template contract choice args =
     where_there (template_in template packages) (UnknownTemplate root) (λ t.
@@ -105,7 +107,8 @@ abbrev pub demand_turn : Result Demand CommandFault → Turn
 demand_turn (Ok demand) = Child demand
 demand_turn (Err fault) = Stop fault
 
--- the turn at index `root` of a list of commands: that of the command there, and behind the last one the end, with the result Unit
+-- the turn at index `root` of a list of commands, of which the last argument is the command there: the action that it asks for or its fault; and the
+-- end with the result Unit for None, behind the last command
 abbrev pub command_turn : Packages → List Known → ℕ → Option Command → Turn
 command_turn packages known root None = End UnitValue
 command_turn packages known root (Some command) = demand_turn (command_demand packages known root command)

@@ -72,12 +72,13 @@ abbrev pub known_of : List Known → ContractRef → Option Known
 known_of known (Id id) = find_known id known
 known_of known (Label l) = find_salt (label_seed l) known
 
--- The id of a contract with this salt. An instance without a spelling has no id, and gets the salt in its place: the encoded bytes of its
--- action exceed the limit, so nobody sees one.
+-- The id of a contract with this salt. An instance without a spelling has no id, and gets the salt in its place; no transaction has it, since the
+-- encoded bytes of its action exceed the limit.
 unfoldable pub id_of : Hash → Instance → Hash
 id_of salt i = cond (are_spelled i.fields) (contract_id salt i) salt
 
--- the id of a contract that is handed in: the one that is handed in with it, or that of its salt and instance; None for a label without a contract
+-- The id of a contract that is handed in with this salt and instance: the one that the reference with it names, or without one that of salt and
+-- instance. None for a label that names no known contract.
 abbrev pub forged_id : List Known → Option ContractRef → Hash → Instance → Option Hash
 forged_id known None salt i = Some (id_of salt i)
 forged_id known (Some r) salt i = referenced_id known r
@@ -96,7 +97,8 @@ with_id salt i (Some id) = Some (record { id = id; salt = salt; instance = i })
 abbrev pub instance_of : TemplateName → List Value → Instance
 instance_of template values = record { template = template; fields = values }
 
--- the contract that is handed in with these parts; None where a label among them names no known contract
+-- The contract that is handed in; None where a label among its parts names no known contract. In order: the known contracts, the reference that tells
+-- its id, if there is one, its salt, its template, its fields.
 abbrev pub forged_contract : List Known → Option ContractRef → Hash → TemplateName → List Arg → Option Known
 forged_contract known id salt template fields =
     with_fields (referenced_values known fields) (λ values. with_id salt (instance_of template values) (forged_id known id salt (instance_of template values)))
@@ -112,13 +114,15 @@ abbrev pub there : {A B : Type 0} → Option A → (A → Option B) → Option B
 there None go = None
 there (Some x) go = go x
 
--- The Exercise of a draft with these parts. None where its contract is said to be known and isn't, or a label in it names no known contract.
+-- The Exercise of a draft; None where its contract is said to be known and isn't, or a label in it names no known contract. In order: the known
+-- contracts, the input, the choice's name, the arguments, the actors, whether it is consuming, the result.
 abbrev pub exercise_of_draft : List Known → Input → List ℕ → List Arg → List (List ℕ) → Bool → Arg → Option Action
 exercise_of_draft known input choice args actors consuming result =
     there (input_of known input) (λ k. there (referenced_values known args) (λ values. there (referenced_value known result) (λ v.
     Some (Exercise k.id k.salt k.instance choice values actors consuming v))))
 
--- The Fetch of a draft with these parts. None where its contract is said to be known and isn't, or a label in it names no known contract.
+-- The Fetch of a draft, of this input and by these actors. None where its contract is said to be known and isn't, or a label in it names no known
+-- contract.
 abbrev pub fetch_of_draft : List Known → Input → List (List ℕ) → Option Action
 fetch_of_draft known input actors = there (input_of known input) (λ k. Some (Fetch k.id k.salt k.instance actors))
 
@@ -129,16 +133,17 @@ filled_action known seed (DraftCreate template fields) =
 filled_action known seed (DraftExercise input choice args actors consuming result) = exercise_of_draft known input choice args actors consuming result
 filled_action known seed (DraftFetch input actors) = fetch_of_draft known input actors
 
--- One draft as a tree with its seed and id, and how many actions there are then. Its depth, the number of actions and its contract are tried,
--- and then `below`, which fills what stands below it after so many actions. `count` actions stand before it.
+-- One draft as a tree, with how many actions there are then, or the first fault: depth, number of actions and contract are tried, then what stands
+-- below it. In order: the known contracts, the levels that are left, its path, its seed, how many actions stand before it, the draft, and what fills
+-- the drafts below it after so many actions.
 abbrev pub fill_one : List Known → ℕ → List ℕ → Hash → ℕ → DraftAction → (ℕ → Result (Actions × ℕ) CommandFault) → Result (Actions × ℕ) CommandFault
 fill_one known left path seed count d below =
     cond (is_zero left) (Err (TooDeep path)) (cond (nat_le MOST_ACTIONS count) (Err (TooMany path))
     (where_there (filled_action known seed d) (ContractUnknown path) (λ action.
     on (below (count + 1)) (λ b. Ok (Root (record { seed = seed; action = action }) b.0 NoRoots, b.1)))))
 
--- Drafts as trees one after another, and how many actions there are then. `left` levels may be used; seed and path are those of what is above;
--- the first has this index, and `count` actions stand before it.
+-- Drafts as trees one after another, with how many actions there are then, or the first fault. In order: the known contracts, the levels that are left,
+-- the seed and the path of what is above, the index of the first draft, how many actions stand before it, the drafts.
 abbrev pub fill_all : List Known → ℕ → Hash → List ℕ → ℕ → ℕ → Drafts → Result (Actions × ℕ) CommandFault
 fill_all known left seed path index count NoRoots = Ok (NoRoots, count)
 fill_all known left seed path index count (Root d children others) =
@@ -146,8 +151,8 @@ fill_all known left seed path index count (Root d children others) =
     (λ n. fill_all known (left - 1) (child_seed seed index) (path ++ index ∷ []) 0 n children)) (λ x.
     on (fill_all known left seed path (index + 1) x.1 others) (λ y. Ok (join x.0 y.0, y.1)))
 
--- The first of these drafts alone, which has this path and this seed, as a tree with what stands below it, and how many actions there are then. No
--- drafts give no tree.
+-- The first of these drafts alone, as a tree with what stands below it, and with how many actions there are then; no drafts give no tree. In order: the
+-- known contracts, the levels that are left, its path, its seed, how many actions stand before it, the drafts.
 abbrev pub fill_tree : List Known → ℕ → List ℕ → Hash → ℕ → Drafts → Result (Actions × ℕ) CommandFault
 fill_tree known left path seed count NoRoots = Ok (NoRoots, count)
 fill_tree known left path seed count (Root d children others) = fill_one known left path seed count d (λ n. fill_all known (left - 1) seed path 0 n children)
@@ -166,8 +171,9 @@ list_answer (Err e) count = Err e
 abbrev pub behind : Actions → Result (Actions × ℕ) CommandFault → Result (Actions × ℕ) CommandFault
 behind front r = on r (λ y. Ok (join front y.0, y.1))
 
--- Root drafts as trees one after another, and how many actions there are then. The first has this index; the labels of each root are tried
--- before its actions (ContractUnknown at the root).
+-- Root drafts as trees one after another, with how many actions there are then, or the first fault; the labels of each root are tried before its
+-- actions (ContractUnknown at the root). In order: the known contracts, the transaction's seed, the index of the first draft, how many actions stand
+-- before it, the drafts.
 abbrev pub fill_roots : List Known → Hash → ℕ → ℕ → Drafts → Result (Actions × ℕ) CommandFault
 fill_roots known seed index count NoRoots = Ok (NoRoots, count)
 fill_roots known seed index count (Root d children others) =
@@ -176,10 +182,11 @@ fill_roots known seed index count (Root d children others) =
     on (fill_roots known seed (index + 1) x.1 others) (λ y. Ok (join x.0 y.0, y.1))))
     (Err (ContractUnknown (index ∷ [])))
 
--- all root drafts as trees, or the first fault
+-- all root drafts of a transaction with this seed as trees, or the first fault; the encoded bytes aren't tried yet
 abbrev pub filled_roots : List Known → Hash → Drafts → Result Actions CommandFault
 filled_roots known seed drafts = on (fill_roots known seed 0 0 drafts) (λ x. Ok x.0)
 
--- The transaction that drafts ask for, or the first fault: what `fill` answers. The last test is that of the encoded bytes.
+-- The transaction with this seed that drafts ask for over these known contracts, or the first fault: what `fill` answers. The last test is that of the
+-- encoded bytes.
 unfoldable pub filling : List Known → Hash → Drafts → Result Actions CommandFault
 filling known seed drafts = on (filled_roots known seed drafts) if_small

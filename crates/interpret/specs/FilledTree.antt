@@ -29,7 +29,7 @@ use Rattle.ledger_terms.specs.Depth.{depth}
 use Rattle.ledger_terms.specs.declared.limits.TheConstants.{MOST_ACTIONS, MOST_ACTION_DEPTH, MOST_ACTION_BYTES}
 use Rattle.interpret.specs.Filled.{id_of, is_draft_named}
 
--- A reference names the contract of id `named`: an id names itself, and a label the first known contract whose salt is its seed.
+-- A reference names the contract of id `named`: an id names itself, and a label the first known contract whose salt is the seed of the label's action.
 abbrev pub Names : List Known → ContractRef → Hash → Type 0
 Names known (Id id) named = named ≡ id
 Names known (Label l) named = (k : Known) × (find_salt (label_seed l) known ≡ Some k) × (named ≡ k.id)
@@ -50,8 +50,8 @@ abbrev pub IsKnownAs : List Known → ContractRef → Known → Type 0
 IsKnownAs known (Id id) k = find_known id known ≡ Some k
 IsKnownAs known (Label l) k = find_salt (label_seed l) known ≡ Some k
 
--- `id` is that of a contract that is handed in with this salt and instance: the one that the reference with it names, or without one the hash of
--- both (`id_of`)
+-- The last argument, `id`, is that of a contract that is handed in with this salt and instance: the one that the reference with it names, or without
+-- one the hash of both (`id_of`).
 abbrev pub IsForgedId : List Known → Option ContractRef → Hash → Instance → Hash → Type 0
 IsForgedId known None salt i id = id ≡ id_of salt i
 IsForgedId known (Some r) salt i id = Names known r id
@@ -72,7 +72,8 @@ IsActionOf known seed (DraftExercise input choice args actors consuming result) 
 IsActionOf known seed (DraftFetch input actors) (Fetch id salt i actors') = IsInputOf known input id salt i × (actors' ≡ actors)
 IsActionOf known seed draft action = ⊥
 
--- the trees stand as the drafts do, each action with the seed of its place below `seed`; the first has this index
+-- The trees stand as the drafts do, each action is that of its draft and has the seed of its place below `seed`. In order: the known contracts, that
+-- seed, the index of the first draft, the drafts, the trees.
 abbrev pub AreFilled : List Known → Hash → ℕ → Drafts → Actions → Type 0
 AreFilled known seed index NoRoots NoRoots = Unit {0}
 AreFilled known seed index (Root d drafts others) (Root act consequences more) =

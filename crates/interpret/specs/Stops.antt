@@ -1,5 +1,6 @@
--- Where commands stop: recognised from whole trees that are as wanted, and the first test that fails behind them. The arguments `left`, `by`,
--- `seen`, `seed`, `path`, `index` and `progress` are those of `Wanted` in Wanted.antt.
+-- Where commands stop: recognised from whole trees that are as wanted, and the first test that fails behind them. `left` levels may be used, `by`
+-- authorise, `seen` was learnt of the children before, and `progress` is what the transaction did before; `seed` and `path` are the action's, or those of
+-- the action above the children that are asked for.
 use Rattle.std.specs.Prelude.{◌≡◌, ℕ, zero, suc, ◌+◌, ◌<◌, Bool, true, false, not, nat_le, List, [], ◌∷◌, ◌++◌, Option, Some, None, Result, Ok, Err, ◌⊎◌}
 use Rattle.ledger_terms.specs.declared.value.Value.{Value}
 use Rattle.ledger_terms.specs.declared.value.Value.TheVariants.{Unit as UnitValue}
@@ -39,21 +40,22 @@ abbrev pub evaluation_fault : {A : Type 0} → List ℕ → Result A EvalFault �
 evaluation_fault path (Err e) others = Some (Eval path e)
 evaluation_fault path (Ok a) others = others a
 
--- The fault of the first test of an Exercise that fails before its body, None where all pass: the contract, which was looked up, is there, the
--- arguments keep their limit, the choice's controllers and observers have values, and there are controllers, all among the authorisers `by`.
+-- The fault of the first test of an Exercise that fails before its body, None where all pass: its contract is there, the arguments keep their limit,
+-- controllers and choice observers have values, and there are controllers, all among the authorisers. In order: the packages, its path, its
+-- authorisers, the contract that was looked up, the choice's name, the arguments.
 abbrev pub exercise_fault : Packages → List ℕ → PartyNames → Option Known → List ℕ → List Value → Option CommandFault
 exercise_fault packages path by None choice args = Some (ContractUnknown path)
 exercise_fault packages path by (Some k) choice args =
     evaluation_fault path (call_controllers packages (call_of k choice args)) (λ actors. fault_where (not (are_authorised actors by)) (Unauthorised path) None)
 
--- The fault of the first test of a Fetch that fails, None where all pass: the contract, which was looked up, is there, and one of its stakeholders
--- is among the authorisers `by`.
+-- The fault of the first test of a Fetch that fails, None where all pass: its contract is there, and one of its stakeholders is among the authorisers.
+-- In order: the packages, its path, its authorisers, the contract that was looked up.
 abbrev pub fetch_fault : Packages → List ℕ → PartyNames → Option Known → Option CommandFault
 fetch_fault packages path by None = Some (ContractUnknown path)
 fetch_fault packages path by (Some k) = fault_where (is_empty (fetchers packages k.instance by)) (Unauthorised path) None
 
--- The fault of the first test that fails of an action that is asked for, where depth and number leave room for it; of an Exercise before its body.
--- None where all pass.
+-- The fault of the first test that fails of an action that is asked for, where depth and number leave room for it; of an Exercise before its body. None
+-- where all pass. In order: the packages, the known contracts, the progress before it, its path, its authorisers, the action.
 abbrev pub demand_fault : Packages → List Known → Progress → List ℕ → PartyNames → Demand → Option CommandFault
 demand_fault packages known progress path by (CreateDemand t fields) =
     evaluation_fault path (created_signatories packages (record { template = t; fields = fields }))
@@ -67,8 +69,9 @@ abbrev pub is_zero : ℕ → Bool
 is_zero zero = true
 is_zero (suc n) = false
 
--- The fault of the first test that fails of an action that is asked for, of an Exercise before its body: the depth, the number of actions, the
--- contract, the evaluations, the authority are tried in this order. None where all pass.
+-- The fault of the first test that fails of an action that is asked for, of an Exercise before its body; None where all pass. Depth, number, contract,
+-- evaluations and authority are tried in this order. Arguments in order: the packages, the known contracts, the levels that are left, the progress
+-- before it, its path, its authorisers, the action.
 abbrev pub first_fault : Packages → List Known → ℕ → Progress → List ℕ → PartyNames → Demand → Option CommandFault
 first_fault packages known left progress path by demand =
     fault_where (is_zero left) (TooDeep path) (fault_where (nat_le MOST_ACTIONS progress.count) (TooMany path)
@@ -81,7 +84,7 @@ pub data Before : Type 0 where
   Past : ActionNode → Before → Before
   Inside : Known → (choice : List ℕ) (args : List Value) (actors : PartyNames) → Before → Before
 
--- an Exercise that is asked for, on contract k and by these actors, passes all tests before its body
+-- an Exercise that is asked for (`demand`), on contract k, of this choice with these arguments and by these actors, passes all tests before its body
 pub record IsBegun (packages : Packages) (known : List Known) (left : ℕ) (progress : Progress) (by : PartyNames) (demand : Demand) (k : Known)
     (choice : List ℕ) (args : List Value) (actors : PartyNames) : Type 0 where
   pub some : 0 < left
@@ -91,12 +94,14 @@ pub record IsBegun (packages : Packages) (known : List Known) (left : ℕ) (prog
   pub entered : call_controllers packages (call_of k choice args) ≡ Ok actors
   pub authorised : are_authorised actors by ≡ true
 
--- what a transaction did when the body of this Exercise begins: a consuming one has consumed its contract then
+-- what a transaction did when the body of an Exercise of this choice, with these arguments, of contract k begins: a consuming one has consumed its
+-- contract then
 abbrev pub progress_inside : Packages → Progress → Known → List ℕ → List Value → Progress
 progress_inside packages progress k choice args = with_consumed (is_consuming_call packages (call_of k choice args)) k.id (with_action progress)
 
--- What a source asks for stops at the place that `Before` tells, with that fault: the source itself has it, or the action that it asks for
--- there fails that test first.
+-- What a source asks for stops with a fault: at the place, the source has it, or the action that it asks for there fails that test first. In order:
+-- packages, known contracts, levels left, source, authorisers, what was learnt of the children before, seed and path of what is above, index of the
+-- next child, progress before it, the place as `Before` tells it from there on, the fault.
 abbrev pub Stops : Packages → List Known → ℕ → Source → PartyNames → List ChildResult → Hash → List ℕ → ℕ → Progress → Before → CommandFault → Type 0
 Stops packages known left source by seen seed path index progress Here fault =
     (source.turn index seen ≡ Stop fault)
@@ -123,12 +128,14 @@ pub record IsInside (packages : Packages) (known : List Known) (left : ℕ) (pro
   pub stops : Stops packages known (one_less left) (body_source packages (call_of k choice args) path) (authorisers packages k.instance actors) []
       seed path 0 (progress_inside packages progress k choice args) more fault
 
--- an action that is asked for is refused with this fault: it fails a test itself, or stops inside
+-- An action that is asked for is refused with a fault: it fails a test itself, or stops inside. In order: the packages, the known contracts, the levels
+-- that are left, the progress before it, its path, its seed, its authorisers, the action, the fault.
 abbrev pub IsRefused : Packages → List Known → ℕ → Progress → List ℕ → Hash → PartyNames → Demand → CommandFault → Type 0
 IsRefused packages known left progress path seed by demand fault =
     (first_fault packages known left progress path by demand ≡ Some fault) ⊎ IsInside packages known left progress path seed by demand fault
 
--- Commands stop with a fault: at a place, or after all of them, where the encoded actions exceed their limit. `seed` is the transaction's.
+-- Commands of these requesters (`act_as`) stop with a fault: at the place of an action, or after all of them with TooBig, where the encoded actions
+-- exceed their limit. `seed` is the transaction's.
 abbrev pub StopsWith : Packages → List Known → Hash → PartyNames → List Command → CommandFault → Type 0
 StopsWith packages known seed act_as commands fault =
     ((before : Before) × Stops packages known MOST_ACTION_DEPTH (commands_source packages known commands) act_as [] seed [] 0 nothing_done before fault)

@@ -23,7 +23,8 @@ use Rattle.interpret.specs.Language.{is_creatable, is_exercisable}
 abbrev pub same_values : List Value → List Value → Bool
 same_values = pointwise value_eq.ghosts.eq
 
--- whether an action is the one that a step of a body asks for; what the step doesn't say (a Create's id, a salt, actors, a result) isn't compared
+-- whether an action is the one that a step of a body asks for; what the step doesn't say (a Create's id, a salt, actors, a result, whether it is
+-- consuming) isn't compared
 abbrev pub is_demanded : Step → Action → Bool
 is_demanded (CreateNext template fields) (Create id i) = template_eq.ghosts.eq i.template template && same_values i.fields fields
 is_demanded (ExerciseNext template id choice args) (Exercise id' salt i choice' args' actors consuming result) =
@@ -74,7 +75,7 @@ are_rest packages body seen (Root act consequences others) =
 abbrev pub is_tree_possible : Packages → Action → Actions → Bool
 is_tree_possible packages action consequences = is_possible packages action && are_rest packages (body_of action) [] consequences
 
--- whether there are no trees
+-- whether there are no trees, as there have to be below a Create and a Fetch
 abbrev pub has_none : Actions → Bool
 has_none NoRoots = true
 has_none (Root act consequences others) = false

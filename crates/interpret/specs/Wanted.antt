@@ -87,9 +87,9 @@ result_of (Create id i) = UnitValue
 result_of (Exercise id salt i choice args actors consuming result) = result
 result_of (Fetch id salt i actors) = UnitValue
 
--- These trees are the rest of what a source asks for, to the end with this result: each action is the one that is asked for, has the seed
--- of its place, is sound, and has the consequences that its choice asks for. `left` levels may be used; `by` authorises; `seen` was learnt
--- of the children before; seed and path are those of what is above; the first tree has this index, and `progress` was before it.
+-- These trees are all that a source still asks for, to the end with this result: each action is the one asked for, keeps the limits, has its place's
+-- seed, is sound, and has its choice's consequences. In order: packages, known contracts, levels left, source, result, authorisers, what was learnt of
+-- the children before, seed and path of what is above, index of the first tree, progress before it, the trees.
 abbrev pub Wanted : Packages → List Known → ℕ → Source → Value → PartyNames → List ChildResult → Hash → List ℕ → ℕ → Progress → Actions → Type 0
 Wanted packages known left source result by seen seed path index progress NoRoots = source.turn index seen ≡ End result
 Wanted packages known left source result by seen seed path index progress (Root act consequences others) =

@@ -294,11 +294,9 @@ impl<K: KnownContracts> Filler<'_, K> {
     }
 }
 
-/// The transaction that a prepared tree asks for, or the first fault: `drafts` with the seeds of their places below `seed`, the transaction's,
-/// and with ids. An input that is known has the id, salt and instance that it has in `known`,
-/// whatever the tree itself creates or consumes, and one that is handed in without an id has that of its salt and
-/// instance. Each root first resolves its labels, then its actions in pre-order try depth, number and contract; the
-/// encoded bytes are tried last. Nothing is evaluated.
+/// The transaction that `drafts`, a prepared tree, ask for: each action with the seed of its place below `seed`, the transaction's, and with its id.
+/// Inputs are as `known` has them or as they are handed in, and nothing is evaluated. An Err is the first fault, of each root its labels, then of its
+/// actions in pre-order depth, number and contract, and the encoded bytes last; or want of memory.
 pub fn fill<K: KnownContracts>(
     alloc: Global,
     known: &K,

@@ -57,7 +57,8 @@ fn is_id_of(alloc: Global, id: &Hash, salt: &Hash, instance: &Instance) -> Resul
     Ok(*id == own)
 }
 
-/// Whether an action that has this seed is authentic: its contract has the id of its salt and instance.
+/// Whether an action is authentic: its contract has the id of its salt and instance. `seed` is the action's; it is the salt of a Create, and another
+/// action carries its salt. The instance has to have a spelling.
 pub fn is_authentic(alloc: Global, seed: &Hash, action: &Action) -> Result<bool, AllocError>
     requires { IsSpellableInstance (instance_of action.now) }
     ensures { IfOk result (λ b. b ≡ is_authentic (record { seed = seed.now; action = action.now })) }

@@ -187,14 +187,9 @@ impl<K: KnownContracts, S: Stepping> Interpreter<'_, K, S> {
     }
 }
 
-/// The transaction that the commands of `act_as` ask for: root actions in order, each with its consequences, in at most 64
-/// actions, 16 levels and 32,768 encoded bytes. `known` has the active contracts that the commands may use, and `seed` is
-/// the transaction's. A command's template, choice and arguments are tried first and its references then, which name known
-/// contracts alone. Each action then tries depth, number, contract, evaluations and authority; an Exercise tries the size
-/// of its arguments, its controllers, its choice observers and its authority before its body and its result. Sizes are
-/// those of spellings, and what has none, as a text of more than 256 bytes, is too large. The first fault is the answer,
-/// and the encoded bytes are tried last. A choice that `natives` has is asked of them in place of the language. Memory is that of
-/// the list of commands.
+/// The transaction that the commands of `act_as` ask for: root actions in order, each with its consequences. `known` has the active contracts that they
+/// may use, `seed` is the transaction's, a choice that `natives` has is asked of them in place of its text, and memory is that of the list of commands.
+/// An Err is the first fault, tried in the order that docs/PROTOCOL.md, 'Commands', has, or want of memory.
 pub fn interpret<K: KnownContracts>(
     checked: &Checked,
     natives: &NativeList,

@@ -88,7 +88,7 @@ pub fn wanted_transactions_are_authentic()
         → list_all is_authentic (preorder forest) ≡ true }
 {}
 
-/// The test of a tree that `reexecute` makes is true exactly where the tree conforms.
+/// The test that `reexecute` makes of a tree (`is_tree_possible`) is true exactly where the tree conforms, whatever its root's seed is.
 pub fn reexecution_decides_conformance()
     ensures { (packages : Packages) (seed : Hash) (action : Action) (consequences : Actions)
         → Decides (is_tree_possible packages action consequences)

@@ -298,10 +298,9 @@ impl<S: Stepping> Replay<'_, S> {
     }
 }
 
-/// Whether a tree of actions is possible in the model (Ledger Model: conformance): its root is possible by itself, and the
-/// consequences of each Exercise are what its choice does, each possible itself, to the result that it has. Seeds, ids
-/// and authority play no part, and neither does what a Fetch has as actors. A choice that `natives` has is asked of them. The error is want
-/// of memory alone.
+/// Whether a tree of actions is possible in the model: each action is possible by itself, and what stands below it is what its choice does, to the
+/// result that it has, and nothing below a Create or a Fetch. Seeds, authority, a Fetch's actors and whether ids are authentic play no part. A choice
+/// that `natives` has is asked of them in place of its text. An Err is want of memory.
 pub fn reexecute(
     alloc: Global,
     checked: &Checked,

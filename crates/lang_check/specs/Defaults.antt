@@ -107,7 +107,7 @@ BodyTakesNoDefault t c packages call seen =
     × ((after : Names) (left : List ChildResult) → ran_all c.body packages (names_of t c call) seen ≡ Went after left → TakesNoDefault c.result after)
 
 abbrev mutual
-  -- an assertion of the statement is reached, and is evaluated to false
+  -- an assertion of the statement, which begins with these names and these results of children, is reached and is evaluated to false
   pub IsRefuted : StmtForm → Packages → Names → List ChildResult → Type 0
   IsRefuted (Assert e) packages names seen = val e names ≡ Ok (BoolValue false)
   IsRefuted (When e first second) packages names seen =
@@ -115,7 +115,7 @@ abbrev mutual
       ⊎ ((val e names ≡ Ok (BoolValue false)) × AreRefuted second packages names seen)
   IsRefuted s packages names seen = ⊥
 
-  -- an assertion of one of the statements is reached, and is evaluated to false
+  -- an assertion of one of the statements, which begin with these names and these results of children, is reached and is evaluated to false
   pub AreRefuted : StmtForms → Packages → Names → List ChildResult → Type 0
   AreRefuted NoStmts packages names seen = ⊥
   AreRefuted (MoreStmts s ss) packages names seen =

@@ -112,7 +112,8 @@ abbrev mutual
       stmts_from (at_member (at_member at (codes "when")) (codes "then")) 0 packages first scope >>= λ _.
       stmts_from (at_member (at_member at (codes "when")) (codes "else")) 0 packages second scope >>= λ _. Ok scope
 
-  -- the scope after statements that are the i-th and further of the list at this place and begin with this scope; or their first fault
+  -- the scope after these statements, which begin with this scope, or their first fault; they are the i-th, from 0, and further ones of the
+  -- list at `at`
   pub stmts_from : Place → ℕ → Packages → StmtForms → Scope → Result Scope CheckFault
   stmts_from at i packages NoStmts scope = Ok scope
   stmts_from at i packages (MoreStmts s ss) scope = stmt_at (at_item at i) packages s scope >>= λ after. stmts_from at (i + 1) packages ss after

@@ -101,7 +101,8 @@ abbrev mutual
   kind_at at scope (Union a b) = two_operands at PartiesKind PartiesKind PartiesKind (kind_at (at_item at 1) scope a) (kind_at (at_item at 2) scope b)
   kind_at at scope (Has a b) = two_operands at PartiesKind PartyKind BoolKind (kind_at (at_item at 1) scope a) (kind_at (at_item at 2) scope b)
 
-  -- nothing where the expressions, which are the i-th item and further of the list at this place, all have this kind; else the first fault
+  -- nothing where these expressions, which are the i-th item, from 0, and further ones of the list at `at`, all have the kind k in this scope;
+  -- else the first fault
   pub all_in_place : Place → ℕ → Scope → Kind → ExprForms → Result ⊤ CheckFault
   all_in_place at i scope k NoExprs = Ok tt
   all_in_place at i scope k (MoreExprs e es) =

@@ -76,11 +76,9 @@ fn checked(alloc: Global, packages: PackageList) -> Result<Checked, Stop>
     Ok(checked)
 }
 
-/// Checks packages: the packages with what is built in, where they are well typed; otherwise the fault that a walk finds first.
-///
-/// The walk takes packages in order; in a package its name, the names of its templates, then the templates; in a template
-/// its fields, `ensure`, signatories, observers, choices; in a choice its name, parameters, controllers, observers, body,
-/// result. Operands come before their expression.
+/// The packages with what is built in, where they are well typed; an Err is the fault that a walk finds first, or want of memory. The walk takes of a
+/// package its name, the names of its templates and the templates; of a template its fields, `ensure`, signatories, observers and choices; of a choice
+/// its name, parameters, controllers, observers, body and result; and operands before their expression.
 pub fn check(alloc: Global, packages: PackageList) -> Result<Checked, CheckFault>
     ensures follows { Follows want_of_memory result (checked_or_fault packages) }
     ensures typed { IfOk result (λ c. ArePackages (note_form ∷ []) packages × (c ≡ checked_packages packages)) }

@@ -22,7 +22,7 @@ kind_of (Party a) = PartyKind
 kind_of (Contract id) = ContractKind
 kind_of (Parties s) = PartiesKind
 
--- whether values are as many as the fields or parameters that are declared, and each has the kind of its own
+-- whether values are as many as the fields or parameters that are declared, and each has its declared kind
 abbrev pub have_kinds : List Value → List FieldDecl → Bool
 have_kinds [] [] = true
 have_kinds (v ∷ vs) (d ∷ ds) = kind_eq.ghosts.eq (kind_of v) d.kind && have_kinds vs ds

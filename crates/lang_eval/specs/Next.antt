@@ -84,7 +84,8 @@ abbrev pub fetch_step : TemplateName → Result (List ℕ) EvalFault → Result 
 fetch_step t contract = with_value contract (λ id. Ok (FetchNext t id))
 
 abbrev mutual
-  -- how a statement ends that begins with these names and these results of children
+  -- how a statement ends that begins with these names and these results of children, which aren't taken yet; the packages tell which fields a
+  -- fetched contract has
   pub ran : StmtForm → Packages → Names → List ChildResult → Ran
   ran (Bind x e) packages names seen = on_value (val e names) (λ v. Went (bound_to x v names) seen)
   ran (Assert e) packages names seen = on_value (truth e names) (λ b. asserted b (Went names seen))
@@ -96,7 +97,7 @@ abbrev mutual
   ran (When e first second) packages names seen =
       on_value (truth e names) (λ b. closed names (cond b (ran_all first packages names seen) (ran_all second packages names seen)))
 
-  -- how statements end, one after another, that begin with these names and these results of children
+  -- how statements end, one after another, that begin with these names and these results of children, which aren't taken yet
   pub ran_all : StmtForms → Packages → Names → List ChildResult → Ran
   ran_all NoStmts packages names seen = Went names seen
   ran_all (MoreStmts s ss) packages names seen = then_on (ran s packages names seen) (λ names seen. ran_all ss packages names seen)

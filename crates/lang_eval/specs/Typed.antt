@@ -72,7 +72,7 @@ abbrev mutual
   HaveKind NoExprs scope k = Unit {0}
   HaveKind (MoreExprs e es) scope k = HasKind e scope k × HaveKind es scope k
 
--- the expressions are as many as these fields or parameters, and each has the kind of its own in this scope
+-- the expressions are as many as these fields or parameters, and each has its declared kind in this scope
 abbrev pub HaveKindsOf : ExprForms → Scope → List FieldDecl → Type 0
 HaveKindsOf NoExprs scope [] = Unit {0}
 HaveKindsOf (MoreExprs e es) scope (d ∷ ds) = HasKind e scope d.kind × HaveKindsOf es scope ds

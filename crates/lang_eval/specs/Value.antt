@@ -98,18 +98,18 @@ abbrev pub with_value : {A B : Type 0} → Result A EvalFault → (A → Result 
 with_value (Ok v) go = go v
 with_value (Err e) go = Err e
 
--- `Both`, of the value of its first operand and the answer of its second: the second counts only where the first is true
+-- `Both`, of the value of its first operand and the answer of its second: the second answer where the first is true, else the first value
 abbrev pub both_of : Value → Answer → Answer
 both_of (BoolValue true) second = second
 both_of v second = Ok v
 
--- `Either`, of the value of its first operand and the answer of its second: the second counts only where the first is false
+-- `Either`, of the value of its first operand and the answer of its second: the second answer where the first is false, else the first value
 abbrev pub either_of : Value → Answer → Answer
 either_of (BoolValue false) second = second
 either_of v second = Ok v
 
 abbrev mutual
-  -- The value of an expression under these names, or its first fault from the left. What `Both`, `Either` and `Cond` don't need has no fault.
+  -- The value of an expression under these names, or its first fault from the left. An operand that `Both`, `Either` or `Cond` doesn't need gives no fault.
   pub val : ExprForm → Names → Answer
   val (Literal v) names = Ok v
   val (Var x) names = Ok (value_in (binding_of x names))

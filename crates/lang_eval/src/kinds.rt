@@ -21,7 +21,7 @@ pub fn kind_of(value: &Value) -> Kind
     }
 }
 
-/// Whether the values are as many as the fields or parameters that are declared, and each has the kind of its own.
+/// Whether the values are as many as the fields or parameters that are declared, and each has its declared kind.
 pub fn have_kinds(values: &[Value], decls: &[FieldDecl]) -> bool
     ensures { result ≡ have_kinds values.now decls.now }
 {

@@ -26,7 +26,8 @@ ghost use Rattle.lang_eval.specs.declared.contract_parties.ContractParties.{Cont
 ghost use Rattle.lang_eval.specs.declared.choice_parties.ChoiceParties.{ChoiceParties};
 ghost use Rattle.lang_eval.specs.Language.{language_of, roles_in};
 
-/// A choice whose body has no statements is done at once, with the choice's result (`any`); so Archive is done at once with Unit (`archive`).
+/// A choice whose body has no statements is done at once, with the choice's result or that result's fault (`any`); so Archive is done at once with Unit
+/// (`archive`).
 pub fn empty_bodies_end()
     ensures any { (t : TemplateForm) (c : ChoiceForm) (packages : Packages) (call : ChoiceCall) (seen : List ChildResult)
         → c.body ≡ NoStmts
@@ -100,8 +101,8 @@ pub fn roles_are_named()
         → AreKnown known (parties_in_roles (roles_in packages action)) }
 {}
 
-/// The package Note and the choices Archive, which are built in, name no party: where all parties of the given packages pass the test `known`, so do
-/// all parties of the packages that a script runs with.
+/// What is built in, the package Note and the choices Archive, names no party beyond those of the given packages: where all parties of these pass the
+/// test `known`, so do all parties of the packages that a script runs with.
 pub fn built_in_packages_name_no_party()
     ensures { (known : List ℕ → Bool) (given : Packages)
         → AreKnown known (parties_in_packages given)

@@ -64,7 +64,7 @@ pub fn logs_that_are_judged_yes_are_ledgers()
 {}
 
 /// A genuine log of a synchroniser with 1 to 255 participants is in range, where it has fewer than 2^32 entries, its times have eight bytes and its
-/// commands are names: its participants are some that there are, and what is owed and decided has small numbers.
+/// commands are names: all participants that its messages name are there, and the numbers in its responses and verdicts have room.
 pub fn genuine_logs_are_in_range()
     ensures { (topology : Topology) (packages : Packages) (log : List Entry)
         → 0 < length topology.hosts

@@ -5,13 +5,13 @@ use Rattle.world_model.specs.Messages.{Message, RequestMessage, ResponseMessage,
 use Rattle.framed_form.specs.Outlines.{IsOutline}
 use Rattle.framed_form.specs.declared.outline.Outline.{Outline}
 
--- What is told of a request's form is so: there is an outline exactly where the request is framed, and it is what the mediator's bytes tell.
+-- The outline fits the request: it is None where the request isn't framed, and else what the mediator's bytes tell of the views.
 abbrev pub IsFraming : Reading → Request → Option Outline → Type 0
 IsFraming reading request None = reading.is_framed request ≡ false
 IsFraming reading request (Some outline) = (reading.is_framed request ≡ true) × IsOutline request outline
 
--- What is told of a message's form is so: where it is a request, there is an outline exactly where that is framed, and it is what the mediator's
--- bytes tell. Of any other message nothing is said.
+-- The outline fits the message: of a request it is None where that isn't framed, and else what the mediator's bytes tell of the views. Of any other
+-- message nothing is said.
 abbrev pub IsFramingOf : Reading → Message → Option Outline → Type 0
 IsFramingOf reading (RequestMessage request) outline = IsFraming reading request outline
 IsFramingOf reading (ResponseMessage response) outline = Unit {0}

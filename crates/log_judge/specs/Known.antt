@@ -21,8 +21,8 @@ standard_for reading params rules = record { reading = reading; params = params;
 abbrev pub standard_of : {P : Type 0} → Reading → Params → Auditor P → Standard
 standard_of reading params auditor = standard_for reading params (rules_of auditor.rules)
 
--- The auditor knows this log: its entries are the log's, its participants (by `have_read`) and its mediator have read it, and it has noted what
--- rules' requests in it exercise.
+-- The auditor has these times and knows this log: its entries are the log's, its participants (by `have_read`) and its mediator have read it, and it
+-- has noted what rules' requests in it exercise.
 pub record KnowsLog {P : Type 0} (reading : Reading) (params : Params) (have_read : List Entry → Type 0) (auditor : Auditor P)
     (log : List Entry) : Type 0 where
   pub same : auditor.params ≡ params

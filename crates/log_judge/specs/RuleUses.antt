@@ -38,8 +38,8 @@ abbrev pub is_wrong_use : List Hash → Option Hash → Bool
 is_wrong_use contracts None = true
 is_wrong_use contracts (Some contract) = has_used contracts contract
 
--- Whether the request is the rule's, and isn't what the rule may cause after the contracts that its requests have exercised. `whole` is the request's
--- transaction, and None where it can't be read.
+-- Whether the request is the rule's, and exercises nothing for the rule or a contract that an earlier request of the rule exercises. `whole` is the
+-- request's transaction, and None where it can't be read.
 abbrev pub is_wrong_by : Request → Option Transaction → Used → Bool
 is_wrong_by request whole one = is_caused_by (rule_of one.rule) request && is_wrong_use one.contracts (exercised_for (rule_of one.rule) whole)
 
@@ -63,8 +63,8 @@ abbrev pub AreUsed : Reading → List Entry → List Used → Type 0
 AreUsed reading log [] = Unit {0}
 AreUsed reading log (one ∷ more) = IsUsed reading log one × AreUsed reading log more
 
--- What the message exercises for rules is noted: where the contracts kept before are those that the requests of a log exercise, the ones after are
--- those of the log with the message behind it. Of a request that isn't framed nothing is said.
+-- The rules stay, and what the message exercises for them is noted: where the contracts kept `before` are those that the requests of a log exercise,
+-- those kept `after` are those of the log with the message behind it. That isn't said of a request that isn't framed.
 pub record IsNoted (reading : Reading) (message : Message) (before after : List Used) : Type 0 where
   pub same : rules_of after ≡ rules_of before
   pub used : (log : List Entry) (time : ℕ) → ¬ IsUnframed reading message → AreUsed reading log before

@@ -87,8 +87,8 @@ fn is_approval(decision: &Decision) -> bool
     }
 }
 
-/// Judges a log by an auditor that has read nothing: it reads each entry after that has shown no case, and stops at the first that shows one. What a
-/// request's mediator's bytes tell is read once. An error is want of memory alone.
+/// Judges a log by an auditor that has read nothing. The auditor reads entry by entry, and the first that shows a case makes the judgement a no with
+/// its place and the case; where none does it is a yes. An error is want of memory alone.
 pub fn judge_log<P: Participants>(
     auditor: &mut Auditor<P>,
     alloc: Global,

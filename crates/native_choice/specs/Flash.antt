@@ -20,8 +20,8 @@ abbrev pub second_note : List Value → List Value
 second_note fields =
     value_or_unit (slice_get fields 0) ∷ value_or_unit (slice_get fields 1) ∷ TextValue (codes "flash") ∷ []
 
--- What Flash does next in a call, after what its children so far gave: it creates the second note, then archives it, and then is done with
--- Unit. A first child that gives no contract, as none does that was asked for, gives Assert.
+-- What Flash does next in a call, after what its children so far gave: it creates the second note, then archives it, and then is done with Unit. Where
+-- the first child gave no contract, as a Create never does, it is Assert.
 abbrev pub flash_next : ChoiceCall → List ChildResult → Result Step EvalFault
 flash_next call [] = Ok (Create note_template_name (second_note call.instance.fields))
 flash_next call (note ∷ []) = exercise_step note_template_name archive_name (id_in (value_seen note)) (Ok [])

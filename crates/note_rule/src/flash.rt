@@ -29,8 +29,8 @@ fn is_go(instance: &Instance) -> bool
     instance.template == note_template_name() && says_go(instance.fields.get(2))
 }
 
-/// What a rule of the program, whichever it is, answers about a contract: a note whose text is `go` flashes. None, by which nothing is done, is
-/// the answer about all other contracts.
+/// What each rule of the program answers about a known contract: for a note whose text is `go` the command that exercises Flash on it, and None, by
+/// which nothing is done, for any other. An Err is want of memory.
 pub fn flash_on_go(alloc: Global, known: &Known) -> Result<Option<Command>, AllocError>
     ensures answer { IfOk result (λ answer. answer ≡ flash_on_go known.now) }
     ensures exercise { IfOk result (λ answer. IfSome answer (IsExerciseOf known.now)) }

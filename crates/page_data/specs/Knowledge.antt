@@ -15,12 +15,12 @@ use Rattle.page_data.specs.declared.contract_state.ContractState.{ContractState}
 use Rattle.page_data.specs.declared.knowledge.Knowledge.{Knowledge}
 use Rattle.page_data.specs.declared.request_state.RequestState.{RequestState}
 
--- The inbox has forgotten nothing, so all that it knows of contracts comes of its items.
+-- The inbox's start is empty: no contract is left of a time before its base. So all that it knows of contracts comes of its items.
 abbrev pub HasNoStart : InboxState → Type 0
 HasNoStart inbox = inbox.start ≡ no_start
 
--- The contracts of which approved requests told the participant, in the order in which they came, each with the places of the requests that
--- created and consumed it.
+-- The contracts of which approved requests told the participant, in the order in which they came. Each has the place of the request that created it and
+-- of the one that consumed it, and None for one of which the participant wasn't told.
 abbrev pub store_rows : InboxState → List StoreRow
 store_rows inbox = written (changes_in (reading_of inbox) inbox.items) []
 

@@ -86,8 +86,8 @@ fn put_row(inbox: &Inbox<'_>, at: usize, rows: &mut StoreRowList) -> Result<(), 
     Ok(())
 }
 
-/// The contracts of which approved requests told a participant that has forgotten nothing, in the order in which they came, each with the places of
-/// the requests that created and consumed it.
+/// The contracts of which approved requests told a participant that has forgotten nothing, in the order in which they came. Each has the place of the
+/// request that created it and of the one that consumed it, and None for one of which the participant wasn't told.
 pub fn store_rows(alloc: Global, inbox: &Inbox<'_>) -> Result<StoreRowList, AllocError>
     requires { HasNoStart inbox.now }
     ensures { IfOk result (λ rows. rows ≡ store_rows inbox.now) }

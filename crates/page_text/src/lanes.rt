@@ -27,7 +27,8 @@ pub(crate) struct Lanes {
 }
 
 impl Lanes {
-    /// The lanes of a page: one for each participant of which it tells, and those beside them. They share the room, each at most `MOST_STEP` wide.
+    /// The lanes of a page: one for each participant of which it tells, then the log's and the mediator's, for which a page for one participant leaves
+    /// room too. They share the room, each at most `MOST_STEP` wide.
     pub fn of(story: &Story<'_>) -> Lanes {
         let participants = story.tellers.len().min(MOST_PARTICIPANTS) as u32;
         let step = (ROOM / (participants + OTHERS)).min(MOST_STEP);

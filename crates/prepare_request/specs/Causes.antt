@@ -46,7 +46,8 @@ AreWanted topology packages me known what roots = AreWantedBy packages known (se
 abbrev pub ConfirmsRequesters : Topology → (me : ℕ) → Submission → Type 0
 ConfirmsRequesters topology me what = (party : List ℕ) → Contains what.act_as party → confirms_at topology.hosts me party ≡ true
 
--- The request is the sealed form of the transaction that the submission wants, which has an action, and each action of which has roles.
+-- Participant `me` confirms for the submission's requesters, and the request is the sealed form of the transaction that it wants over these known
+-- contracts, which has an action, and each action of which has roles. `now` is its ledger time where it states none.
 pub record IsRequestOf (topology : Topology) (packages : Packages) (me : ℕ) (known : List Known) (what : Submission) (now : ℕ) (request : Request)
     : Type 0 where
   pub roots : Actions
@@ -56,16 +57,16 @@ pub record IsRequestOf (topology : Topology) (packages : Packages) (me : ℕ) (k
   pub has_roles : (a : Act) → Contains (acts roots) a → has_roles packages a.action ≡ true
   pub request_is : request ≡ request_for topology packages me what.command (tx_for topology me what now roots)
 
--- The transaction that the submission wants can't be split into views: the fault's path is that of the action without roles, or the empty one where
--- no action is wanted.
+-- The transaction that the submission wants can't be split into views: the fault's path is that of the action without roles, or the empty one where no
+-- action is wanted. `now` is its ledger time where it states none.
 pub record IsUnsplit (topology : Topology) (packages : Packages) (me : ℕ) (known : List Known) (what : Submission) (now : ℕ) (fault : SplitFault)
     : Type 0 where
   pub roots : Actions
   pub wanted : AreWanted topology packages me known what roots
   pub no_roles : views_for packages (tx_for topology me what now roots) ≡ Err fault
 
--- Why a submission wants no request, by the fault that says so. A pause, a command id that stands in the log and a full log are no matter of what it
--- wants, and want of memory never is.
+-- Why a submission of participant `me`, who knows these contracts, wants no request, by the fault that says so. A pause, a command id that stands in
+-- the log and a full log are no matter of what it wants, and want of memory never is. `now` is its ledger time where it states none.
 abbrev pub HasCause : Topology → Packages → (me : ℕ) → List Known → Submission → (now : ℕ) → SubmitFault → Type 0
 HasCause topology packages me known what now (NotHosted party) = first_unconfirmed topology me what.act_as ≡ Some party
 HasCause topology packages me known what now (Command fault) =

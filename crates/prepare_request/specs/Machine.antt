@@ -40,13 +40,14 @@ abbrev pub if_framed : Topology → Result Request SubmitFault → Option Reques
 if_framed topology (Ok request) = if is_framed topology request then Some request else None
 if_framed topology (Err fault) = None
 
--- whether a submission is within the topology and wants a transaction that can be made a request by the rules
+-- Whether a submission is within the topology and wants a transaction, over these known contracts, that can be made a request by the rules. `now` is
+-- its ledger time where it states none.
 abbrev pub is_sealable : Topology → Packages → List Known → Submission → (now : ℕ) → Bool
 is_sealable topology packages known what now =
     is_within topology packages what && can_seal topology packages what.participant (wanted_tx topology packages what.participant known what now)
 
--- The request that a submission wants over its participant's inbox. None where it wants none, where it isn't within the topology, or where it can't
--- be sealed and framed, which is never so of what a client's types can hold.
+-- The request that a submission wants over its participant's inbox (`items`). None where it wants none, where it isn't within the topology, or where it
+-- can't be sealed and framed, which is never so of what a client's types can hold. `now` is its ledger time where it states none.
 abbrev pub prepare_over : Topology → Packages → Offered → Submission → List Item → (now : ℕ) → Option Request
 prepare_over topology packages offered what items now =
     if is_sealable topology packages (offered what.participant items) what now
@@ -58,7 +59,8 @@ abbrev pub fault_in : Result Request SubmitFault → SubmitFault
 fault_in (Ok request) = Memory
 fault_in (Err fault) = fault
 
--- the fault for which a submission wants no request over these items of its participant's inbox
+-- The fault for which a submission wants no request over these items of its participant's inbox; Memory where it wants one, of which nobody asks this.
+-- `now` is its ledger time where it states none.
 abbrev pub why_over : Topology → Packages → Offered → Submission → List Item → (now : ℕ) → SubmitFault
 why_over topology packages offered what items now =
     fault_in (prepared topology packages what.participant (offered what.participant items) what now)

@@ -101,12 +101,14 @@ abbrev pub unless_unconfirmed : Option (List ℕ) → Result Request SubmitFault
 unless_unconfirmed None answer = answer
 unless_unconfirmed (Some party) answer = Err (NotHosted party)
 
--- the transaction of the root actions that the submission asks for, or the fault of its commands or its prepared tree
+-- The transaction of the root actions that the submission of participant `me` asks for, or the fault of its commands or its prepared tree. `now` is its
+-- ledger time where it states none.
 abbrev pub tx_where_wanted : Topology → (me : ℕ) → Submission → (now : ℕ) → Result Actions CommandFault → Result Tx SubmitFault
 tx_where_wanted topology me what now (Ok roots) = Ok (tx_for topology me what now roots)
 tx_where_wanted topology me what now (Err fault) = Err (Command fault)
 
--- the transaction that a submission of participant `me` wants over these known contracts, or the fault with which it stops
+-- The transaction that a submission of participant `me` wants over these known contracts, or the fault with which it stops. `now` is its ledger time
+-- where it states none.
 abbrev pub wanted_tx : Topology → Packages → (me : ℕ) → List Known → Submission → (now : ℕ) → Result Tx SubmitFault
 wanted_tx topology packages me known what now = tx_where_wanted topology me what now (actions_for topology packages me known what)
 
@@ -130,8 +132,7 @@ abbrev pub sealed_if_split : Topology → Packages → (me : ℕ) (command : Lis
 sealed_if_split topology packages me command tx = where_split (views_for packages tx) (request_for topology packages me command tx)
 
 -- The request that a submission of participant `me` wants over these known contracts, or the first fault: the requesters are tried first, then the
--- commands or the prepared tree, then the roles of what they give, which is some action. The contracts that are known are those that the participant
--- offers.
+-- commands or the prepared tree, then whether there is an action and each has roles. `now` is its ledger time where it states none.
 abbrev pub prepared : Topology → Packages → (me : ℕ) → List Known → Submission → (now : ℕ) → Result Request SubmitFault
 prepared topology packages me known what now =
     unless_unconfirmed (first_unconfirmed topology me what.act_as)

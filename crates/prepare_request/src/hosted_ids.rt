@@ -61,7 +61,7 @@ impl HostedIds {
         Ok(())
     }
 
-    /// Puts an id among them, which may be there. Takes no memory.
+    /// Puts an id among them; nothing changes for one that is there already. Room was made for it, so it takes no memory.
     pub fn insert(&mut self, id: Hash)
         requires { 0 < self.old.spare }
         ensures among { (c : List ℕ) → is_among self.new.ids c ≡ (bytes_eq id c || is_among self.old.ids c) }

@@ -109,8 +109,8 @@ pub fn offered_contracts_name_parties_of_the_topology()
         (parties_in_contracts (knowns (node_active (framed_reading topology packages) p (inbox (framed_reading topology packages) p log) n))) }
 {}
 
-/// Ids that tell of a store's contracts tell of them after each change of a row, where the id of a contract that had no row is put
-/// among them exactly if the contract has a hosted stakeholder.
+/// Ids that tell which contracts of a store have a hosted stakeholder (`AreTold`) still tell it after each creation and consumption, where the id of a
+/// contract that is created and had no row is put among them exactly if the contract has one.
 pub fn ids_tell_after_each_change()
     ensures begun { (reading : Reading) (p : ParticipantId) → AreTold reading p [] [] }
     ensures told { (reading : Reading) (p : ParticipantId) (ids : List Hash) (rows : List StoreRow) → AreTold reading p ids rows

@@ -6,8 +6,8 @@ use std::alloc::Global;
 use std::str;
 use svg_text::drawable;
 
-/// The chart of the report that the bytes spell, as SVG. A character that XML hasn't is drawn as U+FFFD. Err: the first line that isn't as the
-/// report's format has it, or want of memory.
+/// The chart of the report that the bytes spell, as SVG. A character that XML hasn't is drawn as U+FFFD. Err: the line of the first byte that isn't
+/// UTF-8, or else the first line that isn't as the report's format has it; or want of memory.
 pub fn chart_of(alloc: Global, bytes: &[u8]) -> Result<Text, ReportFault> {
     let text = text_of(bytes)?;
     let text = drawable(alloc, text)?;

@@ -14,7 +14,7 @@ const LINE_LETTERS: u32 = 120;
 /// How far the lines of a list stand to the right of its title.
 const INDENT: u32 = 24;
 
-/// Lists the refused submissions, of which there are `count`; where there are none, nothing is drawn.
+/// Lists the first 500 refused submissions, and says where there are more. `count` is how many the report has; where it is 0, nothing is drawn.
 pub fn draw_refused(
     sheet: &mut Sheet,
     report: &Report<'_>,
@@ -51,7 +51,8 @@ fn draw_refusal(
     draw_line(sheet, words.as_str(), Font::Plain)
 }
 
-/// Lists which rules fired, each with its round, its contract and its command; where none did, nothing is drawn.
+/// Lists the first 500 rules that fired, each with its round, its contract and its command, and says where there are more. Where none fired, nothing is
+/// drawn.
 pub fn draw_fired(sheet: &mut Sheet, report: &Report<'_>) -> Result<(), AllocError> {
     if report.fired.is_empty() {
         return Ok(());
@@ -69,7 +70,8 @@ fn draw_one_fired(sheet: &mut Sheet, fired: &Fired<'_>) -> Result<(), AllocError
     draw_line(sheet, told.as_str(), Font::Code)
 }
 
-/// Lists what each participant knows at the end of the run, with its active contracts below it.
+/// Lists what each participant knows at the end of the run, with its active contracts below it. Only the first 500 active contracts of the report are
+/// listed, and a line says where there are more.
 pub fn draw_summaries(sheet: &mut Sheet, report: &Report<'_>) -> Result<(), AllocError> {
     draw_title(sheet, "What each participant knows at the end")?;
     for summary in report.summaries.as_slice() {

@@ -30,7 +30,7 @@ impl LaneSet {
         lanes
     }
 
-    /// Adds a participant, if it is one of the first eight.
+    /// Adds a participant. One that isn't among the first eight of the report is left out.
     pub fn insert(&mut self, lane: Lane) {
         if lane.0 < MOST_LANES {
             self.lanes[lane.0] = true;

@@ -124,8 +124,8 @@ impl LogIndex {
         }
     }
 
-    /// Whether the message is appended, and else the first cause why it isn't. `slips` are those of all entries of the log. An error says that there
-    /// is no memory.
+    /// Whether the message is appended, or the first cause why it isn't. `slips` are those of all entries of the log, and the topology tells which
+    /// requests are framed. An error says that there is no memory.
     pub fn admit(
         &self,
         alloc: Global,

@@ -46,8 +46,8 @@ long_bytes_at bytes = do
   len ← number_at w32 bytes
   bytes_at len.0 len.1
 
--- Reads an envelope behind its tag, the first argument: for 0 there is none, for 1 it follows with its length. Any other tag can't be read, which is
--- told by the last argument: how many bytes were left at the tag.
+-- Reads an envelope behind its tag. The arguments are the tag, the bytes behind it, and how many bytes were left at the tag. The tag 0 says that there
+-- is no envelope, 1 that it follows with its length; any other can't be read, and the Err is the last argument.
 unfoldable pub tagged_envelope_at : ℕ → List ℕ → ℕ → Result (Option (List ℕ) × List ℕ) ℕ
 tagged_envelope_at zero rest here = Ok (None, rest)
 tagged_envelope_at (suc zero) rest here = seen_at Some long_bytes_at rest
@@ -64,7 +64,7 @@ envelope_at bytes = do
 abbrev pub RequestParts : Type 0
 RequestParts = ((((ℕ × List ℕ) × List ℕ) × List (List ℕ)) × List (List ℕ)) × Option (List ℕ)
 
--- What an item brings that is a request with these parts.
+-- A request with these parts, as what an item brings.
 abbrev pub request_of : RequestParts → ItemWhat
 request_of parts = Request parts.0.0.0.0.0 parts.0.0.0.0.1 parts.0.0.0.1 parts.0.0.1 parts.0.1 parts.1
 
@@ -72,15 +72,15 @@ request_of parts = Request parts.0.0.0.0.0 parts.0.0.0.0.1 parts.0.0.0.1 parts.0
 unfoldable pub request_at : Reading ItemWhat
 request_at = seen_at request_of (both_at (both_at (both_at (both_at (both_at byte_at name_at) hash_at) paths_at) paths_at) envelope_at)
 
--- Reads what an item brings behind its tag, the first argument: for 0 nothing, for 1 a request, for 2 a verdict. Any other tag can't be read, which
--- is told by the last argument: how many bytes were left at the tag.
+-- Reads what an item brings behind its tag. The arguments are the tag, the bytes behind it, and how many bytes were left at the tag. The tag 0 says
+-- that it brings nothing, 1 a request, 2 a verdict; any other can't be read, and the Err is the last argument.
 unfoldable pub tagged_what_at : ℕ → List ℕ → ℕ → Result (ItemWhat × List ℕ) ℕ
 tagged_what_at zero rest here = Ok (Nothing, rest)
 tagged_what_at (suc zero) rest here = request_at rest
 tagged_what_at (suc (suc zero)) rest here = seen_at Verdict (verdict_at MOST_OF_BYTE) rest
 tagged_what_at (suc (suc (suc n))) rest here = Err here
 
--- Reads what an item brings: a byte as its tag, and what belongs to that.
+-- Reads what an item brings: a byte as its tag, 0 for nothing, 1 for a request and 2 for a verdict, and then the request or the verdict.
 unfoldable pub what_at : Reading ItemWhat
 what_at bytes = do
   tag ← byte_at bytes
@@ -110,7 +110,7 @@ responses_at = counted_at (number_at w32) any_item (response_at MOST_OF_BYTE)
 unfoldable pub places_at : Reading (List ℕ)
 places_at = counted_at (number_at w32) is_past (number_at w64)
 
--- Reads the byte of the version, which is 1, and gives nothing. Any other version can't be read.
+-- Reads the byte of the version, which is 1, and gives nothing. Any other version can't be read, nor can a version where no byte is left.
 unfoldable pub version_at : Reading (Unit {0})
 version_at [] = Err 0
 version_at (zero ∷ rest) = Err (length rest + 1)
@@ -145,6 +145,6 @@ state_of parts =
       done = parts.1;
     }
 
--- Reads a state, part by part. What stands behind it is left (`read_all` asks that nothing does).
+-- Reads a state, part by part, at the front of bytes, and gives the bytes behind it too. `read_all` refuses those.
 unfoldable pub state_at : Reading NodeState
 state_at = seen_at state_of (both_at (both_at (both_at (both_at (both_at head_at rows_at) ids_at) items_listed_at) responses_at) places_at)

@@ -49,7 +49,7 @@ pub record AreSpellablePlaces (places : List ℕ) : Type 0 where
   pub few : length places < 2 ^ 32
   pub ascend : IsStrictlyIncreasing places
 
--- A state has a spelling, since each of its parts has one.
+-- A state has a spelling: each of its parts has one.
 pub record IsSpellableState (state : NodeState) : Type 0 where
   pub active : AreCounted IsSpellableRow state.active
   pub gone : AreSpellableIds state.gone

@@ -26,8 +26,8 @@ fn begun_pruned(alloc: Global, setup: &Setup, state: &NodeState) -> Result<NodeS
     node.pruned_state(alloc)
 }
 
-/// The state, pruned to the base of its inbox: the greatest place below which every request is decided at it. What comes of it is the state that the
-/// participant would have, had it been pruned there at once.
+/// The state with its inbox pruned to the inbox's base: the greatest place below which every request that was received is decided at that place. It is
+/// the state that the participant would have, had it been pruned there itself. An error is want of memory alone.
 pub fn prune(alloc: Global, setup: &Setup, state: &NodeState) -> Result<NodeState, AllocError>
     requires { IsLawful setup.now.topology setup.now.checked state.now }
     ensures base { IfOk result (λ pruned. pruned.base ≡ Base.base setup.now.topology.params (items_in setup.now.topology state.now)) }

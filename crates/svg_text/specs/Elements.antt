@@ -79,7 +79,8 @@ abbrev pub line_element : Point → Point → Stroke → List ℕ
 line_element from to stroke =
     codes "<line" ++ ends from to ++ class_attribute (tone_word stroke.tone) (dash_word stroke.dash) ++ codes "/>\n"
 
--- the attribute that puts the tip of an arrow at the end of a line; the word is that of the tone, for each of which the picture defines a tip
+-- the attribute that puts the tip of an arrow at the end of a line; the word is that of the tone, for each of which but `paper` the picture defines a
+-- tip
 unfoldable pub tip : List ℕ → List ℕ
 tip word = joined_attribute (codes "marker-end") (codes "url(#tip-") word (codes ")")
 
@@ -96,7 +97,7 @@ paint_class paint = class_attribute (tone_word paint.tone) (fill_word paint.fill
 abbrev pub outline : Frame → List ℕ
 outline frame = place frame.corner ++ extent frame.size ++ number_attribute (codes "rx") frame.radius
 
--- a rectangle at this frame, painted so
+-- a rectangle at this frame, with the tone and the fill of the paint
 abbrev pub rectangle_element : Frame → Paint → List ℕ
 rectangle_element frame paint = codes "<rect" ++ outline frame ++ paint_class paint ++ codes "/>\n"
 
@@ -104,7 +105,7 @@ rectangle_element frame paint = codes "<rect" ++ outline frame ++ paint_class pa
 abbrev pub round : Point → ℕ → List ℕ
 round at radius = number_attribute (codes "cx") at.x ++ number_attribute (codes "cy") at.y ++ number_attribute (codes "r") radius
 
--- a circle round this point with this radius, painted so
+-- a circle round this point with this radius, and with the tone and the fill of the paint
 abbrev pub circle_element : Point → ℕ → Paint → List ℕ
 circle_element at radius paint = codes "<circle" ++ round at radius ++ paint_class paint ++ codes "/>\n"
 

@@ -21,7 +21,7 @@ tone_word Waiting = codes "waiting"
 tone_word Accent = codes "accent"
 tone_word Paper = codes "paper"
 
--- the class of the style sheet that sets a text in this font
+-- the class of the style sheet that sets a text in this font; `plain` needs no rule there
 abbrev pub font_word : Font → List ℕ
 font_word Plain = codes "plain"
 font_word Strong = codes "strong"
@@ -35,14 +35,14 @@ anchor_word Start = codes "start"
 anchor_word Middle = codes "middle"
 anchor_word End = codes "end"
 
--- the class of the style sheet that fills a shape so; `clear` needs no rule there
+-- the class of the style sheet that gives a shape this fill; `clear` needs no rule there
 abbrev pub fill_word : Fill → List ℕ
 fill_word Clear = codes "clear"
 fill_word Page = codes "page"
 fill_word Tint = codes "tint"
 fill_word Full = codes "full"
 
--- the class of the style sheet that draws a line so; `solid` needs no rule there
+-- the class of the style sheet that draws a line with this dash; `solid` needs no rule there
 abbrev pub dash_word : Dash → List ℕ
 dash_word Solid = codes "solid"
 dash_word Dashed = codes "dashed"

@@ -42,7 +42,7 @@ line,path,rect,circle{stroke:currentColor;stroke-width:1.6;fill:none}
 </style>
 ";
 
-/// A tip for the arrows of each tone, which takes its colour from the tone's class.
+/// A tip for the arrows of each tone but that of paper, which takes its colour from the tone's class.
 pub(crate) const TIPS: &str = "<defs>
 <marker id=\"tip-ink\" viewBox=\"0 0 8 8\" refX=\"7\" refY=\"4\"
  markerWidth=\"7\" markerHeight=\"7\" orient=\"auto\"><path class=\"ink full\" d=\"M1 1L7 4L1 7z\"/></marker>

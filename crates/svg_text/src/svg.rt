@@ -103,7 +103,7 @@ impl Svg {
         self.out.push_str("</text>\n")
     }
 
-    /// Draws a line from one point to the other.
+    /// Draws a line from one point to the other, with the tone and the dash of the stroke.
     pub fn line(&mut self, from: Point, to: Point, stroke: Stroke) -> Result<(), AllocError>
         ensures { OnOk result (self.new ≡ self.old ++ line_element from to stroke) }
     {
@@ -113,7 +113,7 @@ impl Svg {
         self.out.push_str("/>\n")
     }
 
-    /// Draws an arrow, whose tip is at `to`.
+    /// Draws an arrow, whose tip is at `to`, with the tone and the dash of the stroke. In the tone of paper it has no tip.
     pub fn arrow(&mut self, from: Point, to: Point, stroke: Stroke) -> Result<(), AllocError>
         ensures { OnOk result (self.new ≡ self.old ++ arrow_element from to stroke) }
     {

@@ -32,7 +32,7 @@ abbrev pub IsShort : Value → Type 0
 IsShort (Text s) = length s ≤ MOST_TEXT_BYTES
 IsShort v = Unit {0}
 
--- an argument is a value that a script could have, and no reference to a contract
+-- an argument is a value, of few bytes where it is a text, and no reference to a contract
 abbrev pub IsPlain : Arg → Type 0
 IsPlain (Plain v) = IsShort v
 IsPlain (Contract r) = ⊥

@@ -70,8 +70,9 @@ impl<F: Answering> Rules<F> {
         self.rules.as_slice()
     }
 
-    /// Asks the rule with the number `rule` in a round about these active contracts, in order, but for those on which it has fired. It fires
-    /// on those for which a command is answered; what it caused comes back. `now` is the time in microseconds. After want of memory it hasn't fired.
+    /// Asks the rule with the number `rule`, from 0, in this round about these active contracts, in order, but for those on which it has fired. It
+    /// fires on those for which a command is answered; what it caused comes back. `now` is the time in microseconds. After want of memory it hasn't
+    /// fired.
     pub fn fire(
         &mut self,
         rule: u32,

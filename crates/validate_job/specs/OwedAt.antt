@@ -26,8 +26,9 @@ without_requests reading =
       has_vetted = reading.has_vetted;
     }
 
--- A participant checks a request of which it has this notice by this: its set-up says what the reading says, the sender is the notice's,
--- and of each view that it confirms what it is shown and the facts are what is known of contracts.
+-- The check input is that of a request of which the participant has this notice: topology and packages say what the reading says, the sender is the
+-- notice's, and for each view that the participant confirms the input has what the envelope gives and, as facts, the statuses `known` and the locks
+-- `held`.
 pub record IsInputOf (reading : Reading) (known : Hash → Status) (held : Hash → Bool) (notice : Notice) (input : CheckInput) : Type 0 where
   pub rules : without_requests reading ≡ reading_of input
   pub sender : input.sender ≡ notice.sender

@@ -143,7 +143,8 @@ impl<'s> ValidateJob<'s> {
         self.check_next_by(&NativeList::new(alloc))
     }
 
-    /// As `check_next`, where a choice that `natives` has is asked of them in place of the contract language.
+    /// Checks the next view, and gives the verdicts on all views after the last; None where views are left to check. The choices that `natives` has are
+    /// asked of them in place of the contract language. After want of memory the job is as before.
     pub fn check_next_by(&mut self, natives: &NativeList) -> Result<Option<Finished>, AllocError>
         requires { 0 < self.old.left }
         ensures one_view { OnOk result (self.new.left + 1 ≡ self.old.left) }

@@ -32,7 +32,7 @@ impl<'r> DisclosedRequest<'r> {
         })
     }
 
-    /// Whether views of the request are withheld from somebody.
+    /// Whether views of the request are withheld from somebody of whom it is drawn. False where it discloses nothing.
     pub fn has_withheld(&self) -> bool {
         match &self.disclosure {
             Some(disclosure) => !disclosure.withheld.is_empty(),

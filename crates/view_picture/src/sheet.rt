@@ -74,7 +74,7 @@ impl Sheet {
     }
 
     /// Puts a participant's chip into a row that has the part `span` of the width: at `left`, or at the beginning of a new row where it has no room
-    /// there. The result is how far to the right the next chip stands.
+    /// there. The result is how far from the left edge the next chip stands, in units.
     pub fn put_chip(
         &mut self,
         span: Span,
@@ -114,7 +114,7 @@ impl Sheet {
         self.skip(CHIP + CHIP_GAP);
     }
 
-    /// Begins a box below all that was put. The result is where its top is, which `end_box` wants to know.
+    /// Begins a box below all that was put. The result is how far from the top edge it begins, in units: the `top` that `end_box` takes.
     pub fn begin_box(&mut self) -> u32 {
         self.skip(BOX_GAP);
         let top = self.bottom;
@@ -122,7 +122,7 @@ impl Sheet {
         top
     }
 
-    /// Ends the box that began at `top`, so that all that was put since stands inside it.
+    /// Ends the box that began at `top`, so that all that was put since stands inside it. It goes over the part `span` of the width.
     pub fn end_box(&mut self, span: Span, top: u32, kind: BoxKind) -> Result<(), AllocError> {
         self.skip(INSIDE / 2);
         let frame = Frame {

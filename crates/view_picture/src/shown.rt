@@ -14,7 +14,7 @@ use std::alloc::{AllocError, Global};
 const WIDTH: u32 = 800;
 
 /// The lines and chips by which a picture shows what the request at a place discloses to the participant `me`, without boxes. They stand as if the
-/// picture began at the left edge.
+/// picture began at the left edge. Where it discloses nothing, a line says so.
 pub fn shown_pieces(
     alloc: Global,
     topology: &Topology,
@@ -37,8 +37,8 @@ pub fn shown_pieces(
     Ok(sheet.pieces)
 }
 
-/// The text of the action with this number, in pre-order, in the core of the view at a path, as `me` is shown it: None where that view
-/// isn't opened to it, and where the core has no such action.
+/// The text of the action with this number, in pre-order and counted from 0, in the core of the view at a path, as `me` is shown it. None where that
+/// view isn't opened to it, and where the core has no such action.
 pub fn shown_action(
     alloc: Global,
     topology: &Topology,

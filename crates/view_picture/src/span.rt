@@ -17,7 +17,7 @@ const LEVEL: u32 = 20;
 const LETTER: u32 = 8;
 
 impl Span {
-    /// The part of the width that is left inside a box of this one.
+    /// The part of the width that is left inside a box which goes over this part.
     pub fn inside(&self) -> Span {
         Span {
             left: self.left.saturating_add(INSIDE),

@@ -13,7 +13,7 @@ pub(crate) struct Spot {
 }
 
 impl Spot {
-    /// Where the root views of a transaction stand.
+    /// Where the list of a transaction's root views stands: in this part of the width, with the empty path and no views above it.
     pub fn root(alloc: Global, span: Span) -> Spot {
         Spot {
             path: Path::new(alloc),

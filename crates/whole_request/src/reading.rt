@@ -19,7 +19,7 @@ use std::alloc::{AllocError, Global};
 use view_split::{ViewList, into_assembled};
 use wire_form::WireFault;
 
-/// The whole of a request, and None where its complete envelopes don't open all of it. Each view comes from the first of them that opens it to a
+/// The whole of a framed request, and None where its complete envelopes don't open all of it. Each view comes from the first of them that opens it to a
 /// participant that sees it, the requesters from the first to one that sees a root view, and the ledger time from the mediator's bytes.
 pub fn whole_of(
     alloc: Global,
