@@ -18,7 +18,7 @@ use Rattle.world_play.specs.WorldOf.{IsWorldOf, world_of}
 use Rattle.world_play.specs.declared.world.World.{World}
 
 -- What the cases of `sharing` keep of a synchroniser between two sharings: a lawful world of the machine m, over this topology and these packages,
--- whose participants have forgotten nothing.
+-- whose participants have forgotten nothing, and whose time is at most 10^16 microseconds.
 pub record CanBeShared (topology : Topology) (packages : Packages) (m : Machine) (world : World) : Type 0 where
   -- each participant was made for this topology and these packages
   pub nodes : AreSetUp topology packages (world.nodes).items

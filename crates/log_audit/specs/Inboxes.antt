@@ -27,7 +27,7 @@ pub record HaveRead (topology : Topology) (packages : Packages) (inboxes : List 
   pub hosts : length inboxes ≡ length topology.hosts
   pub each : (p : ℕ) → p < length inboxes → slice_get inboxes p ≡ Some (inbox_of topology packages log p)
 
--- The inboxes may read the entry: they have read a log that stays genuine with this entry behind it, and it isn't too long.
+-- The inboxes may read the entry: they have read a log of fewer than 2^63 entries that stays genuine with this entry behind it.
 pub record MayRead (inboxes : List InboxState) (entry : Entry) : Type 0 where
   pub topology : Topology
   pub packages : Packages

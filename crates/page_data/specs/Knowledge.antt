@@ -15,7 +15,7 @@ use Rattle.page_data.specs.declared.contract_state.ContractState.{ContractState}
 use Rattle.page_data.specs.declared.knowledge.Knowledge.{Knowledge}
 use Rattle.page_data.specs.declared.request_state.RequestState.{RequestState}
 
--- The inbox's start is empty: no contract is left of a time before its base. So all that it knows of contracts comes of its items.
+-- The inbox's start is empty: it left no contracts and no ids at its base. So all that it knows of contracts comes of its items.
 abbrev pub HasNoStart : InboxState → Type 0
 HasNoStart inbox = inbox.start ≡ no_start
 

@@ -4,7 +4,7 @@ use Rattle.world_model.specs.Node.{owed_at, owes_at}
 use Rattle.node_inbox.specs.InboxState.{InboxState, params_of, reading_of}
 use Rattle.page_data.specs.declared.owed.Owed.{Owed}
 
--- A list of the verdicts that the participant owes to the one request at a place, and an empty one where it owes none there.
+-- A list of one: the place, with the verdicts that the participant owes to the request there. It is empty where it owes none there.
 abbrev pub owed_at_place : InboxState → ℕ → List Owed
 owed_at_place inbox place =
     if owes_at (reading_of inbox) inbox.me inbox.items place
