@@ -19,7 +19,7 @@ first_byte (byte ∷ rest) = byte
 abbrev pub bucket : List (List ℕ) → ℕ → List (List ℕ)
 bucket ids b = filter (λ id. nat_eq (first_byte id) b) ids
 
--- an id has 32 bytes, of which the first is below 256
+-- an id has 32 bytes, of which the first, by which it has its bucket, is below 256
 pub record IsId (id : List ℕ) : Type 0 where
   pub long : length id ≡ 32
   pub first : first_byte id < 256
@@ -38,11 +38,11 @@ pub record IsIdSet (ids : List (List ℕ)) : Type 0 where
 abbrev pub has_id : List (List ℕ) → List ℕ → Bool
 has_id = has_party
 
--- the set with one more id
+-- The set with this id, put where it belongs by its bytes; the set as it is where it has the id.
 abbrev pub with_id : List ℕ → List (List ℕ) → List (List ℕ)
 with_id = with_party
 
--- the set without an id
+-- the set without this id; the set as it is where it doesn't have the id
 abbrev pub without_id : List ℕ → List (List ℕ) → List (List ℕ)
 without_id id ids = filter (λ other. not (same_name other id)) ids
 
@@ -52,7 +52,7 @@ module _ (sha : Hashing) where
   hash_at ids zero at = sha (bucket_string (bucket ids at))
   hash_at ids (suc height) at = sha (node_string (hash_at ids height (2 * at)) (hash_at ids height (2 * at + 1)))
 
-  -- the strings that are hashed for the hash at that height and place
+  -- the strings that are hashed for the hash at a height above the buckets, the one number `at` from the left, with those of all hashes below it
   unfoldable pub strings_at : List (List ℕ) → (height at : ℕ) → List (List ℕ)
   strings_at ids zero at = bucket_string (bucket ids at) ∷ []
   strings_at ids (suc height) at =

@@ -14,7 +14,8 @@ use Rattle.audit_model.specs.Rules.{is_wrong_trigger}
 use Rattle.audit_model.specs.declared.why.Why.{Why}
 use Rattle.audit_model.specs.declared.why.Why.TheVariants.{Time, Unframed, Repeated, NoRequest, TooLate, WrongCheck, WrongDecision, WrongTrigger}
 
--- the entry's time doesn't follow that of the last entry of the log `before`
+-- The entry's time doesn't follow that of the last entry of the log `before`, 0 where that is empty: a Tick has to be later, and any other entry
+-- exactly one microsecond later.
 abbrev pub IsMistimed : (before : List Entry) → Entry → Type 0
 IsMistimed before entry = ¬ FollowsTime entry.message (time_at_end before) entry.time
 
@@ -41,7 +42,8 @@ AnswersNothing before (VerdictMessage verdict) = request_at before verdict.reque
 AnswersNothing before (RequestMessage request) = ⊥
 AnswersNothing before Tick = ⊥
 
--- the message is a response or a verdict, with a time later than the decision time of its request in the log `before`
+-- The message is a response or a verdict, with a time later than the decision time of its request in the log `before`. A place without an entry counts
+-- as one of the time 0.
 abbrev pub IsTooLate : Params → (before : List Entry) → Message → (time : ℕ) → Type 0
 IsTooLate params before (ResponseMessage response) time = decision_time_of params before response.request < time
 IsTooLate params before (VerdictMessage verdict) time = decision_time_of params before verdict.request < time
@@ -79,7 +81,7 @@ Shows s before entry WrongTrigger = is_wrong_trigger s before entry.message ≡ 
 abbrev pub ShowsNone : Standard → (before : List Entry) → Entry → Type 0
 ShowsNone s before entry = (why : Why) → ¬ Shows s before entry why
 
--- the order in which the cases are tried: an entry is judged by the first that it shows
+-- the number of a case, from 1, in the order in which the cases are tried: an entry is judged by the first that it shows
 abbrev pub number_of : Why → ℕ
 number_of Time = 1
 number_of Unframed = 2

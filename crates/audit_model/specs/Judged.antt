@@ -43,6 +43,6 @@ abbrev pub is_approving_verdict : Option Verdict → Bool
 is_approving_verdict None = false
 is_approving_verdict (Some verdict) = is_approval (Some verdict.decision)
 
--- whether the entry brings a verdict that approves
+-- whether the entry brings a verdict that approves; a judgement counts approved requests by it
 abbrev pub is_approving : Entry → Bool
 is_approving entry = is_approving_verdict (verdict_of entry.message)

@@ -14,8 +14,8 @@ use lang_eval::Checked;
 use ledger_terms::{Action, ActionNode, PartySet};
 use std::alloc::{AllocError, Global};
 
-/// Whether the parties `by` authorise an action that has roles: they have the signatories of a Create, and the actors of an Exercise, of which there
-/// is one at least. The actors of a Fetch have to be exactly the stakeholders among `by`, and there is one at least. Err is want of memory.
+/// Whether the parties `by` authorise an action that has roles: they have all signatories of a Create, and all actors of an Exercise, of which there is
+/// one at least. The actors of a Fetch have to be exactly the stakeholders among `by`, and there is one at least. Err is want of memory.
 pub fn authorised(
     alloc: Global,
     checked: &Checked,

@@ -10,8 +10,8 @@ ghost use Rattle.ledger_model.specs.declared.roles.Roles.{Roles};
 ghost use Rattle.ledger_model.specs.Authority.{is_authorised, is_forest_authorised};
 ghost use Rattle.authorise.specs.Below.{are_authorised_below};
 
-/// A transaction is authorised by parties exactly where each root is, and the direct consequences of each action are by
-/// those who authorise them.
+/// A transaction is authorised by the parties `by` exactly where they authorise each root, and each action's actors and its contract's signatories
+/// authorise its direct consequences. So authority can be checked action by action.
 pub fn authority_is_local()
     ensures { (roles : Action → Roles) (by : PartySet) (roots : Forest Act)
         → is_forest_authorised roles by roots

@@ -7,7 +7,8 @@ use Rattle.blind_tree.specs.declared.leaf.Leaf.{Leaf}
 use Rattle.blind_tree.specs.declared.leaf.Leaf.TheVariants.{Blind, Plain}
 use Rattle.blind_tree.specs.declared.tree.Tree.{Tree}
 
--- A collision: two different strings, one of each list, have one hash.
+-- A collision: two different strings, one of `some` and one of `others`, have one hash by `sha`. Two sized trees of one root may disagree only where
+-- their strings collide (`one_root_one_tree`).
 pub record Clash (sha : Hashing) (some others : List (List ℕ)) : Type 0 where
   pub one : List ℕ
   pub other : List ℕ

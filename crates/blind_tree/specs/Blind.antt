@@ -110,8 +110,8 @@ abbrev pub sees_root : (List ℕ → Bool) → Forest SplitView → Bool
 sees_root hosts NoRoots = false
 sees_root hosts (Root view subviews others) = is_sight hosts view || sees_root hosts others
 
--- What a participant's tree shows of a view: the whole view, if the participant sees it; else what stands below it, if there is a view below it that
--- the participant sees; else its hash alone.
+-- What a participant's tree shows of a view: the whole view, if the participant sees it (`sees`); else what stands below it, if the participant sees a
+-- view below it (`below`); else its hash alone.
 abbrev pub visibility : (sees below : Bool) → Visibility
 visibility sees below = if sees then Whole else (if below then Passed else Hidden)
 
@@ -188,7 +188,8 @@ has_name (Some host) name = same_name host.name name
 abbrev pub is_host_named : List Host → ℕ → List ℕ → Bool
 is_host_named hosts p name = has_name (slice_get hosts p) name
 
--- the tree for a recipient, participant p or the mediator, of the transaction that was split into these views; `sender` is the sender's name
+-- the tree for a recipient, participant p or the mediator, of the transaction that was split into these views; `sender` is the sender's name, and the
+-- list of hosts is the topology's
 abbrev pub blind_for : Hashing → Views → (sender : List ℕ) → List Host → Recipient → Tree
 blind_for sha views sender hosts (Participant p) = blind_to sha views sender (hosts_at hosts p) (is_host_named hosts p sender)
 blind_for sha views sender hosts Mediator = blind_for_mediator sha views sender

@@ -89,7 +89,8 @@ cut_views hosts above (Root part subviews others) =
     let sees = above || is_kept_sight hosts part in
     cut_part sees (has_kept_sight hosts subviews) part (cut_views hosts sees subviews) (cut_views hosts above others)
 
--- The vertex of one kept view alone, which the participant sees or doesn't, with those below it.
+-- The vertex of one kept view, with those below it and none beside it, which is what the code cuts or spells at a time. `sees` tells whether the
+-- participant, which hosts these parties, sees the view.
 abbrev pub cut_one : (hosts : List ℕ → Bool) (sees : Bool) → KeptView → Forest KeptView → Vertices
 cut_one hosts sees part subviews = cut_part sees (has_kept_sight hosts subviews) part (cut_views hosts sees subviews) NoVertices
 
@@ -99,7 +100,7 @@ cut_for_mediator NoRoots = NoVertices
 cut_for_mediator (Root part subviews others) =
     InnerVertex (cut_leaf true part.informees_leaf) (cut_leaf false part.contents_leaf) (cut_for_mediator subviews) (cut_for_mediator others)
 
--- A tree of these vertices with the kept common leaf and the requesters leaf, which is shown or not.
+-- A tree of these vertices, with the kept common leaf shown. The truth value says whether the kept requesters leaf is shown too, or its hash alone.
 abbrev pub cut_shows : KeptTree → Bool → Vertices → Tree
 cut_shows kept shows_requesters views =
     record { common = cut_leaf true kept.common; requesters = cut_leaf shows_requesters kept.requesters; views = views }

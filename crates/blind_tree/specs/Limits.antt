@@ -13,12 +13,12 @@ use Rattle.wire_form.specs.Spelling.{spell_action}
 use Rattle.wire_form.specs.Spellable.{IsSpellableAction}
 use Rattle.view_split.specs.declared.split_view.SplitView.{SplitView}
 
--- how many bytes these actions have, each with its seed
+-- how many bytes these actions and all below them have, each with the bytes of its seed
 abbrev pub acts_length : Forest Act → ℕ
 acts_length NoRoots = 0
 acts_length (Root act below others) = length act.seed + length (spell_action act.action) + acts_length below + acts_length others
 
--- each of these actions has a spelling
+-- each of these actions and of those below them has a spelling
 abbrev pub AreSpellableActs : Forest Act → Type 0
 AreSpellableActs NoRoots = Unit {0}
 AreSpellableActs (Root act below others) = IsSpellableAction act.action × AreSpellableActs below × AreSpellableActs others
@@ -41,13 +41,14 @@ pub record AreAmong (parties : List (List ℕ)) (roles : Roles) : Type 0 where
   pub confirmers : is_subset roles.confirmers parties ≡ true
   pub ascend : IsRising roles.informees
 
--- the informees and confirmers of each of these actions are among these parties; the first argument gives an action's roles
+-- the informees and confirmers of each of these actions, and of those below them, are among these parties (`AreAmong`); the first argument gives an
+-- action's roles
 abbrev pub AllAmong : (Action → Roles) → List (List ℕ) → Forest Act → Type 0
 AllAmong roles parties NoRoots = Unit {0}
 AllAmong roles parties (Root act below others) =
     AreAmong parties (roles act.action) × AllAmong roles parties below × AllAmong roles parties others
 
--- The informees and the confirmers of each view are sets of at most 128 parties.
+-- The informees and the confirmers of each view, at any depth, are sets of at most 128 parties. The proof of `split_views_are_within` goes by it.
 abbrev pub HaveSets : Forest SplitView → Type 0
 HaveSets NoRoots = Unit {0}
 HaveSets (Root view subviews others) = (IsPartySet view.informees × IsPartySet view.confirmers) × HaveSets subviews × HaveSets others

@@ -13,7 +13,8 @@ use Rattle.blind_tree.specs.declared.leaf.Leaf.{Leaf}
 use Rattle.blind_tree.specs.declared.vertex.Vertex.{Vertex}
 use Rattle.blind_tree.specs.declared.vertex.Vertex.TheVariants as vertices
 
--- The view of a vertex with all views below it. A vertex that shows its hash alone is a fault.
+-- The view of a vertex with all views below it. Err is at place 0 where it, a vertex below it or a leaf of one shows its hash alone; at a place in a
+-- leaf's bytes that can't be read; or at the end of a core's bytes where its holes are more or fewer than the vertices directly below.
 abbrev pub vertex_read : Vertex → Result View WireFault
 vertex_read (vertices.Blind hash) = Err (Bad 0)
 vertex_read (vertices.Inner informees contents subviews) = view_read informees contents subviews

@@ -26,7 +26,8 @@ abbrev pub is_end : List ℕ → Bool
 is_end [] = true
 is_end (step ∷ rest) = false
 
--- Whether a vertex stands at this path below these vertices, the first of which is number k.
+-- Whether the path leads to one of these vertices, the first of which is number k, or to a vertex below one; the path begins with the number of one of
+-- them. false for the empty path.
 abbrev pub stands_at : ℕ → Vertices → List ℕ → Bool
 stands_at k NoVertices path = false
 stands_at k (BlindVertex hash others) [] = false
@@ -42,7 +43,7 @@ are_listed listed above k (BlindVertex hash others) = listed (above ++ k ∷ [])
 are_listed listed above k (InnerVertex informees contents subviews others) =
     listed (above ++ k ∷ []) && (are_listed listed (above ++ k ∷ []) 0 subviews && are_listed listed above (suc k) others)
 
--- A truth value as the answer of code that may fail for want of memory alone.
+-- A truth value as an answer that is never a fault: so contracts give the answer of a test that fails for want of memory alone.
 abbrev pub answered : Bool → Result Bool WireFault
 answered b = Ok b
 
@@ -96,7 +97,7 @@ of_tree root seen requesters (Err fault) = Mismatch
 of_tree root seen requesters (Ok tree) =
     if bytes_eq root (hash_of_root sha256 tree) then open_or_missing (opened_of_views seen requesters tree) else Mismatch
 
--- What an envelope's bytes open of the views with these paths, and of the requesters where they are asked for. Mismatch: the bytes are no tree with
--- this root hash. Missing: something that is asked for can't be read in it.
+-- What an envelope's bytes open of the views with the paths `seen`, and of the requesters if `requesters` says so. Mismatch: the bytes are no tree with
+-- this root hash. Missing: they are one, but `opened_of_views` of it is a fault.
 abbrev pub opened_for_root : (root : List ℕ) (seen : List (List ℕ)) (requesters : Bool) (bytes : List ℕ) → OpenedFor
 opened_for_root root seen requesters bytes = of_tree root seen requesters (read_all tree_at bytes)

@@ -25,7 +25,7 @@ use Rattle.blind_tree.specs.declared.tree.Tree.{Tree}
 use Rattle.blind_tree.specs.declared.view_roles.ViewRoles.{ViewRoles}
 use Rattle.blind_tree.specs.declared.roles_tree.RolesTree.{RolesTree}
 
--- Hands what was read on to `go`, which reads further. A fault stays as it is.
+-- Hands what was read on to `go`, which reads further, as Rust's `and_then` does. A fault stays as it is, and `go` isn't asked.
 abbrev pub with_read : {A B : Type 0} → Result A WireFault → (A → Result B WireFault) → Result B WireFault
 with_read (Ok x) go = go x
 with_read (Err fault) go = Err fault
@@ -70,7 +70,7 @@ is_open (Plain salt bytes) (Plain salt2 bytes2) = true
 is_open (Plain salt bytes) (Blind hash) = false
 is_open (Blind hash) leaf = false
 
--- how many bytes a leaf shows
+-- how many bytes a leaf shows, 0 where it shows its hash alone
 abbrev pub leaf_length : Leaf → ℕ
 leaf_length (Blind hash) = 0
 leaf_length (Plain salt bytes) = length bytes
@@ -99,7 +99,8 @@ own_view parts = (view_of parts NoRoots).root
 abbrev pub own_view_read : (informees contents : Leaf) (subviews : ℕ) → Result SplitView WireFault
 own_view_read informees contents subviews = with_read (parts_read informees contents subviews) (λ parts. Ok (own_view parts))
 
--- All the views of these vertices and those below them, as trees. A vertex that shows its hash alone is a fault.
+-- All the views of these vertices and those below them, as trees. Err (Bad) where a vertex or one of its leaves is blinded or can't be read, or a core
+-- has another number of holes than there are vertices directly below it.
 abbrev pub views_read : Vertices → Result (Forest SplitView) WireFault
 views_read NoVertices = Ok NoRoots
 views_read (BlindVertex hash others) = Err (Bad 0)
@@ -107,7 +108,8 @@ views_read (InnerVertex informees contents subviews others) =
     with_read (parts_read informees contents (count subviews)) (λ parts. with_read (views_read subviews) (λ below.
     with_read (views_read others) (λ rest. Ok (join (tree_of (view_of parts below)) rest))))
 
--- the view of a vertex, by its two leaves and the vertices below it, with all views below it
+-- The view of a vertex, by its two leaves and the vertices below it, with all views below it. A fault of its leaves is that of `parts_read`, and one
+-- below it that of `views_read`.
 abbrev pub view_read : (informees contents : Leaf) → Vertices → Result View WireFault
 view_read informees contents subviews =
     with_read (parts_read informees contents (count subviews)) (λ parts. with_read (views_read subviews) (λ below. Ok (view_of parts below)))

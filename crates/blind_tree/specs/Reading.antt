@@ -67,8 +67,8 @@ most_beside (suc levels) = MOST_ACTIONS
 abbrev pub list_at : (limit : ℕ) → Reading Vertex → Reading Vertices
 list_at limit vertex = seen_at vertices_of (counted_at (count_at limit) any_item vertex)
 
--- The reading of a vertex, on so many levels at most, its own counted. None stands where no level is left: the count that announces one there is the
--- field that can't be read.
+-- The reading of a vertex, on so many levels at most, its own counted. With no level left it is Err where the vertex begins, but it isn't asked then:
+-- `list_at` takes no count above 0 there, so a vertex that stands too deep is a fault at the count that announces it.
 unfoldable pub vertex_at : ℕ → Reading Vertex
 vertex_at zero bytes = Err (length bytes)
 vertex_at (suc levels) bytes =
@@ -90,7 +90,7 @@ tree_of parts = record { common = parts.0.0; requesters = parts.0.1; views = par
 unfoldable pub tree_at : Reading Tree
 tree_at = seen_at tree_of (both_at (both_at leaf_at leaf_at) (vertices_at MOST_ACTION_DEPTH))
 
--- What was read, where nothing comes after it; else the bytes after it can't be read.
+-- What was read, where no bytes are left after it; else Err with how many are left. So `read_all` refuses bytes after the value.
 abbrev pub ended : {A : Type 0} → A → List ℕ → Result A ℕ
 ended x [] = Ok x
 ended x (b ∷ more) = Err (length (b ∷ more))
@@ -104,8 +104,8 @@ with_place len (Err left) = Err (Bad (len - left))
 abbrev pub read_all : {A : Type 0} → Reading A → List ℕ → Result A WireFault
 read_all read bytes = with_place (length bytes) (read bytes >>= λ x. ended x.0 x.1)
 
--- What a reader of `len` bytes gave, with so many bytes left after it, as an answer on all of them: what was read only where none is left, else the
--- place of the fault.
+-- What a reader of `len` bytes gave, with `left` bytes left after it, as an answer on all of them: what was read only where none is left, else Bad with
+-- the place of the first byte left, or of the reader's fault; and Memory stays Memory.
 abbrev pub reader_answer : {A : Type 0} → Result A ReaderFault → ℕ → ℕ → Result A WireFault
 reader_answer (Ok x) len zero = Ok x
 reader_answer (Ok x) len (suc left) = Err (Bad (len - suc left))

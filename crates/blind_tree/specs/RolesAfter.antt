@@ -8,8 +8,8 @@ use Rattle.blind_tree.specs.declared.leaf.Leaf.{Leaf}
 use Rattle.blind_tree.specs.declared.view_roles.ViewRoles.{ViewRoles}
 
 -- The list so far, and behind it the informees and confirmers of the views of these vertices and of all views below them, in order of path. The first
--- vertex has index k below the view with the path `above`. A vertex or an informees leaf that shows its hash alone is a fault; contents leaves aren't
--- looked at.
+-- vertex has index k below the view with the path `above`. Err (Bad) where a vertex or an informees leaf is blinded or can't be read; contents leaves
+-- aren't looked at.
 abbrev pub roles_after : List ℕ → ℕ → Vertices → List ViewRoles → Result (List ViewRoles) WireFault
 roles_after above k NoVertices so_far = Ok so_far
 roles_after above k (BlindVertex hash others) so_far = Err (Bad 0)

@@ -74,8 +74,8 @@ abbrev pub AreViews : Forest SplitView → Type 0
 AreViews NoRoots = Unit {0}
 AreViews (Root view subviews others) = IsView view × AreViews subviews × AreViews others
 
--- The trees of a transaction can be read again: its sender has a name, its time fits 64 bits, its requesters are a set of parties, and each view can be
--- read again.
+-- The trees of a transaction can be read again: `sender` is a name, the ledger time fits 64 bits, the requesters are a set of parties, and each view
+-- can be read again.
 pub record AreInRange (sender : List ℕ) (views : Views) : Type 0 where
   pub sender_is : IsName sender
   pub time_fits : views.ledger_time < 2 ^ 64

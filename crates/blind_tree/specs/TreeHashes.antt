@@ -10,7 +10,8 @@ use Rattle.blind_tree.specs.declared.tree.Tree.{Tree}
 abbrev pub Hashing : Type 0
 Hashing = List ℕ → List ℕ
 
--- The hash of a leaf of a kind: 1 is common, 2 requesters, 3 informees, 4 contents.
+-- The hash of a leaf of a kind (1 common, 2 requesters, 3 informees, 4 contents): the one that a blind leaf shows, or that of a plain leaf's salt and
+-- bytes.
 abbrev pub hash_of_leaf : Hashing → ℕ → Leaf → List ℕ
 hash_of_leaf sha kind (Blind hash) = hash
 hash_of_leaf sha kind (Plain salt bytes) = sha (leaf_hash_string kind salt bytes)

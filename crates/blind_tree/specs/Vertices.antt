@@ -33,7 +33,8 @@ AreNarrow (InnerVertex informees contents subviews others) = (count subviews ≤
 abbrev pub IsNarrow : Vertices → Type 0
 IsNarrow views = (count views ≤ 65536) × AreNarrow views
 
--- What vertices are written as, in `marks`: an end (None), a hash, or two leaves.
+-- What one vertex is written as in `marks`: its hash where it shows that alone (`inl`), or else its two leaves, informees and contents (`inr`). The
+-- list has these as Some; a None there is the end of vertices side by side.
 abbrev pub Mark : Type 0
 Mark = List ℕ ⊎ (Leaf × Leaf)
 

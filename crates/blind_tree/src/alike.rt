@@ -15,8 +15,8 @@ use crate::vertex::{Vertex, VertexList};
 use ledger_terms::{Bytes, Hash};
 use std::alloc::{AllocError, Global};
 
-/// Whether `tree` has the hash `root`, which is the hash of the tree `told`. What both trees show alike isn't hashed, so it costs less than `verify`.
-/// Err is want of memory.
+/// Whether `tree` has the hash `root`, which is the hash of the tree `told`. Where the two are found alike part by part, what both show isn't hashed,
+/// which costs less than `verify`; else all of `tree` is hashed. Err is want of memory.
 pub fn verify_beside(
     alloc: Global,
     tree: &Tree,

@@ -17,9 +17,9 @@ use ledger_terms::{Bytes, Exact, Name, Topology};
 use std::alloc::{AllocError, Global};
 use view_split::Views;
 
-/// The tree of a transaction for the recipient `to` (Canton protocol: blinding). `sender` is the name of the participant that submits it. A participant
-/// is shown the views of which it hosts an informee, with all below them, and the mediator the informees and confirmers of all views; other views are
-/// there as hashes. Err is want of memory.
+/// The tree of a transaction for the recipient `to` (Canton protocol: blinding), which the participant named `sender` submits. A participant is shown
+/// the views of which it hosts an informee, with all below them, and the requesters where one is a root view or it is the sender; the mediator the
+/// informees and confirmers of all views. All else is there as hashes, but for the common leaf. Err is want of memory.
 pub fn blind(
     alloc: Global,
     views: &Views,

@@ -12,8 +12,8 @@ use wire_form::{encode_hash, encode_u32};
 /// How many bytes are made room for at first: a tree of a few views has no more.
 pub(crate) const USUAL_TREE: usize = 960;
 
-/// The spelling of a tree. A count or a length that has no room is written by its lowest bytes, so that a tree can be read again
-/// only where `is_spellable` says so.
+/// The spelling of a tree. A count or a length that has no room is written by its lowest bytes, so that a tree can be read again only where
+/// `is_spellable` says so. Err is want of memory.
 pub fn encode_tree(alloc: Global, tree: &Tree) -> Result<Bytes, AllocError>
     ensures { IfOk result (λ bytes. bytes ≡ spell_tree tree.now) }
 {

@@ -53,8 +53,8 @@ pub fn one_spelling()
     ensures encoded { IsEnoughFor IsTree IsSpellableTree }
 {}
 
-/// Each kind of leaf has one spelling of what it holds: the bytes that are read as sender and ledger time, requesters, roles or a core are the
-/// spelling of that, which is read as it.
+/// Each kind of leaf has one spelling of what it holds, that is of sender and ledger time, of requesters, of roles or of a core: bytes that are read as
+/// a value are its spelling, and the spelling of a value in range is read as it.
 pub fn leaves_have_one_spelling()
     ensures common { HasOneSpelling spell_common IsCommon head_at }
     ensures requesters { HasOneSpelling spell_parties IsPartySet set_at }
@@ -69,8 +69,8 @@ pub fn one_root_one_tree()
         → AgreeTrees t u ⊎ Clash sha256 (tree_strings sha256 t) (tree_strings sha256 u) }
 {}
 
-/// All trees of one transaction have one root, also with other salts of the first two leaves than those of its seed. With these, each hash and salt in
-/// them has 32 bytes.
+/// All trees of one transaction have one root, also with other salts of the first two leaves than those of its seed. With the salts of its seed, each
+/// hash and salt in them has 32 bytes.
 pub fn blinding_keeps_the_root()
     ensures root { (views : Views) (sender : List ℕ) (hosts : List Host) (to : Recipient)
         → hash_of_root sha256 (blind_for sha256 views sender hosts to) ≡ transaction_digest sha256 views sender }
@@ -92,8 +92,8 @@ pub fn sight_is_that_of_the_rules()
         → list_any is_root_path (seen_paths roles hosts roots) ≡ sees_root hosts (split roles roots) }
 {}
 
-/// The recipients of a transaction's trees are its sender and each participant that sees a view. Where no two participants have a
-/// name in common, the one with the sender's name is the sender.
+/// The recipients of a transaction's trees are its sender, which is a participant, and each participant that sees a view. Where no two participants
+/// have a name in common, the one with the sender's name is the sender.
 pub fn recipients_are_the_sender_and_who_sees()
     ensures recipients { (hosts : List Host) (views : Forest SplitView) (sender p : ℕ) → sender < length hosts
         → Contains (recipients_of hosts views sender) p ↔ (is_recipient hosts views sender p ≡ true) }
@@ -142,8 +142,8 @@ pub fn blinded_trees_are_spellable()
 {}
 
 /// Of a transaction in range whose views have as many holes as views directly below them, a participant's tree opens the topmost views that it sees,
-/// with all below them, and the requesters to the sender and to who sees a root view; the mediator's tree tells the informees and confirmers of every
-/// view, of any transaction in range.
+/// with all below them, and the requesters to the sender and to who sees a root view. Of any in range the mediator's tree tells the sender, and the
+/// informees and confirmers of every view.
 pub fn trees_open_what_is_seen()
     ensures participants { (views : Views) (sender : List ℕ) (hosts : List ℕ → Bool) (is_sender : Bool) → AreInRange sender views → AreFilled views.roots
         → tree_opened (blind_to sha256 views sender hosts is_sender)
@@ -157,8 +157,8 @@ pub fn trees_open_what_is_seen()
         → informee_tree_of (blind_for_mediator sha256 views sender) ≡ Ok (record { sender = sender; views = roles_of_all [] 0 views.roots }) }
 {}
 
-/// The views of a transaction within the limits can be blinded, and its trees can be written: with at most 64 actions, 16 of
-/// them one below another, with at most 32,768 bytes, and with roles among at most 128 parties.
+/// The views of a transaction within the limits can be blinded, and its trees can be written: with at most 64 actions, 16 of them one below another,
+/// with at most 32,768 bytes, with requesters that are a set of at most 128 names, and with roles among at most 128 parties.
 pub fn split_views_are_within()
     ensures blinded { (roles : Action → Roles) (parties : List (List ℕ)) (views : Views) (roots : Forest Act)
         → views.roots ≡ split roles roots → IsPartySet views.act_as → KeepLimits roots → AreFew parties → AllAmong roles parties roots → AreSpellable views }

@@ -22,8 +22,8 @@ use view_split::{CoreNode, OpenedTree, PlacedView, PlacedViewList, SplitView, Vi
 use wire_form::WireFault;
 
 /// What a participant reads in its tree: sender, ledger time, the requesters where shown, and the topmost views whose two leaves are plain, with all
-/// below them. Err is the first fault: a common leaf or a vertex below such a view that is blind, a leaf that can't be read, or other than as many
-/// holes as subviews. Its place is that in the leaf's bytes, their end for the holes, and 0 where nothing is shown.
+/// below them. Err is want of memory, or the first fault: at place 0 a blind common leaf, or a blind vertex or leaf below such a view; else at the
+/// place in a leaf's bytes that can't be read, or at a core's end where its holes are more or fewer than the subviews.
 pub fn opened(alloc: Global, tree: &BlindTree) -> Result<OpenedTree, WireFault>
     requires { IsNarrow tree.now.views }
     ensures { Follows WireFault.Memory result (tree_opened tree.now) }

@@ -28,7 +28,8 @@ use view_split::{OpenedTree, PlacedViewList};
 use wire_form::WireFault;
 
 /// What bytes open to a participant that sees the views with the paths `seen`, and the requesters too if `requesters` says so. Mismatch: they are no
-/// tree whose hash is `root`. Missing: something that is asked for can't be read in it. Anybody may have made the bytes; Err is want of memory.
+/// tree whose hash is `root`. Missing: they don't show the common leaf, a view asked for or the requesters asked for, or show a view below one that
+/// isn't in `seen`, or what they show can't be read. Err is want of memory.
 pub fn opened_for(
     alloc: Global,
     bytes: &[u8],
@@ -49,8 +50,8 @@ pub fn opened_for(
     open_tree(alloc, &tree, seen, requesters)
 }
 
-/// What `opened_for` answers of the bytes, with less hashing: `told` is another tree whose hash is `root`, as the mediator's, and what both trees
-/// show alike isn't hashed.
+/// What `opened_for` answers of the bytes, with less hashing: `told` is another tree whose hash is `root`, as the mediator's, and what both trees show
+/// alike isn't hashed. Err is want of memory.
 pub fn opened_beside(
     alloc: Global,
     bytes: &[u8],

@@ -87,7 +87,7 @@ impl VertexList {
         self.vertices.as_slice()
     }
 
-    /// Puts a vertex at the end.
+    /// Puts a vertex at the end. Err is want of memory, and leaves the list as it was.
     #[tactic(auto, using(crate::proofs::Grow::grown))]
     pub fn push(&mut self, vertex: Vertex) -> Result<(), AllocError>
         ensures ok { OnOk result (self.new ≡ beside self.old (one_vertex vertex)) }

@@ -47,7 +47,7 @@ abbrev pub is_created_before : Reading → Shown → ℕ × Act → Bool
 is_created_before reading shown a =
     list_any (λ (b : Act). reading.is_authentic b && creates (id_of (a.1).action) b) (take a.0 (acts shown.roots))
 
--- a place below j is withheld from participant p
+-- some place below j of the log is withheld from participant p; such a participant may reject as Inactive what the ledger has as active
 abbrev pub IsWithheldBelow : Reading → List Entry → ParticipantId → ℕ → Type 0
 IsWithheldBelow reading log p j = (m : ℕ) × (m < j) × (is_withheld reading log p m ≡ true)
 
@@ -121,8 +121,8 @@ pub record RejectionHolds (reading : Reading) (params : Params) (log : List Entr
 abbrev pub has_responded_by : List Entry → (j time : ℕ) → ParticipantId → Bool
 has_responded_by log j time p = list_any (λ (entry : Entry). not (nat_lt time entry.time) && is_response_of p j entry.message) log
 
--- A timeout of the request at place j is right: some entry is past the deadline, and the participants named as missing are exactly the confirming
--- ones without a response by it, in order.
+-- A timeout of the request at place j is right: some entry is past the deadline, and the participants named as missing are exactly those that the
+-- request asks without a response by the deadline, in the request's order.
 pub record TimeoutHolds (params : Params) (log : List Entry) (j : ℕ) (missing : List ParticipantId) : Type 0 where
   pub request : Request
   pub there : request_at log j ≡ Some request

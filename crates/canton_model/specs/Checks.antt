@@ -71,7 +71,8 @@ abbrev pub is_authorised_by_known : (Action → Roles) → Option PartySet → A
 is_authorised_by_known roles None action = false
 is_authorised_by_known roles (Some requesters) action = is_authorised roles requesters action
 
--- Where this action of the view's core is the first of a root view, the requesters are told and authorise it. True of any other action.
+-- Where this action of the view's core is the first of a root view, the requesters are told and authorise it. True of any other action. The first
+-- argument gives an action's roles.
 abbrev pub is_requested : (Action → Roles) → Shown → OpenedView → ℕ × Act → Bool
 is_requested roles shown view a =
     not (is_root_view view && is_first view.core a.0) || is_authorised_by_known roles shown.requesters (a.1).action

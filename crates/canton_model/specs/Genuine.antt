@@ -16,8 +16,8 @@ use Rattle.canton_model.specs.Inbox.{inbox, confirms_signatory, is_informed}
 use Rattle.canton_model.specs.Checks.{verdicts_owed, is_first, is_root_view, first_tree, is_from, is_well_split}
 use Rattle.canton_model.specs.Ledger.{Timely, FitsIfVerdict, opened_to}
 
--- The response fits, with this time, at place k behind the first k entries of the log: its request stands there and names its sender as confirming,
--- it is the first of that sender, it holds the verdicts owed, and it isn't too late.
+-- The response fits, with this time, at place k behind the first k entries of the log: its request stands before k and names its sender as confirming,
+-- it is the first response of that sender, it holds exactly the verdicts owed, and it isn't past the request's decision time.
 pub record ResponseFits (reading : Reading) (params : Params) (log : List Entry) (k time : ℕ) (response : Response) : Type 0 where
   pub request : Request
   pub earlier : response.request < k

@@ -140,7 +140,7 @@ abbrev pub outcome_in : Params → List Item → ℕ → Outcome
 outcome_in params items m = outcome_of (moments items) m (decision_time_in params items m)
 
 -- The actions that count for the status of contracts at place k: the authentic ones that complete envelopes opened to the participant, of requests
--- below k on which an Approved verdict stands before k, in order.
+-- below k whose first verdict before k is Approved, in order.
 abbrev pub past_in : Reading → List Item → ℕ → List Act
 past_in reading items k =
     gather (λ m. is_approved_in m (take k (moments items))) (λ m. filter reading.is_authentic (acts (opened_at items m))) k
@@ -185,7 +185,8 @@ part_if false place roots = []
 part_if true place NoRoots = []
 part_if true place (Root act consequences others) = record { place = place; roots = Root act consequences others } ∷ []
 
--- the approved requests below a place of an inbox, as opened to the participant, in order, without those of which nothing was opened
+-- The requests below a place of an inbox that are approved over all its items, as opened to the participant, in order, without those of which nothing
+-- was opened.
 abbrev pub parts_below : List Item → ℕ → List CommitRoots
 parts_below items zero = []
 parts_below items (suc k) = parts_below items k ++ part_if (is_approved_in k (moments items)) k (opened_at items k)
@@ -283,7 +284,8 @@ active_of reading p commits = filter (is_active_row reading p (ledger_acts commi
 abbrev pub is_informed : Reading → ParticipantId → Act → Bool
 is_informed reading p act = list_any (reading.hosts p) (informees_of reading.language act.action)
 
--- the projection of a request's transaction to what participant p is informed of; the empty forest where there is no transaction
+-- The projection of a request's transaction to what participant p is informed of; the empty forest where there is no transaction. Proofs compare with
+-- it what a complete envelope opens.
 abbrev pub project_whole : Reading → ParticipantId → Option Transaction → Forest Act
 project_whole reading p None = NoRoots
 project_whole reading p (Some transaction) = project (is_informed reading p) transaction.roots

@@ -67,10 +67,11 @@ abbrev pub TimesFrom : ℕ → List Entry → Type 0
 TimesFrom before [] = Unit {0}
 TimesFrom before (entry ∷ rest) = FollowsTime entry.message before entry.time × TimesFrom entry.time rest
 
--- until when responses to the request at place j of the log count: the time of its entry and the response timeout
+-- until when responses to the request at place j of the log count: the time of its entry and the response timeout; the timeout alone where the log has
+-- no entry there
 abbrev pub deadline_of : Params → List Entry → ℕ → ℕ
 deadline_of params log j = time_of (slice_get log j) + params.response_timeout
 
--- until when a verdict on the request at place j of the log may come: its deadline and the reaction timeout
+-- until when a verdict on the request at place j of the log may come: its deadline (`deadline_of`) and the reaction timeout
 abbrev pub decision_time_of : Params → List Entry → ℕ → ℕ
 decision_time_of params log j = deadline_of params log j + params.reaction_timeout

@@ -45,7 +45,7 @@ pub record Reading : Type 0 where
 abbrev pub placed_outline : Reading → Request → Forest (Path × Outlined)
 placed_outline reading request = paths_from [] 0 (reading.outline request)
 
--- the paths of these views, without the views, in pre-order
+-- the paths of views that are given with their paths, in pre-order, without the views
 abbrev pub paths_in : Forest (Path × Outlined) → List Path
 paths_in views = map (λ (view : Path × Outlined). view.0) (preorder views)
 
@@ -63,7 +63,7 @@ paths_confirmed reading p request =
     map (λ (view : Path × Outlined). view.0)
     (filter (λ (view : Path × Outlined). list_any (reading.confirms p) (view.1).confirmers) (preorder (placed_outline reading request)))
 
--- the list isn't empty
+-- whether the list has a path; it is asked of the paths of views that a participant sees or confirms
 abbrev pub is_some_path : List Path → Bool
 is_some_path paths = list_any (λ (path : Path). true) paths
 

@@ -23,7 +23,7 @@ use Rattle.canton_model.specs.Reading.{Reading, Outlined, Offer, Mismatch, Missi
 abbrev pub alice : Name
 alice = 65 ∷ []
 
--- Bank's name, "B", which is the issuer of contracts
+-- Bank's name, "B"; Bank issues the contracts that are transferred
 abbrev pub bank : Name
 bank = 66 ∷ []
 
@@ -52,12 +52,12 @@ abbrev pub party_in : Value → PartySet
 party_in (PartyValue name) = name ∷ []
 party_in _ = []
 
--- the party of the first field, the issuer, in a list; none where there is no such field
+-- the party of the first field, the issuer, in a list; none where there is no such field or it is no party
 abbrev pub first_field : List Value → PartySet
 first_field [] = []
 first_field (v ∷ vs) = party_in v
 
--- the party of the second field, the owner, in a list; none where there is no such field
+-- the party of the second field, the owner, in a list; none where there is no such field or it is no party
 abbrev pub second_field : List Value → PartySet
 second_field [] = []
 second_field (v ∷ vs) = first_field vs
@@ -133,7 +133,7 @@ transfer_act seed =
 abbrev pub transfer : (seed : ℕ) → Forest Act → Forest Act
 transfer seed others = Root (transfer_act seed) (Root (create seed (contract bank carol)) NoRoots NoRoots) others
 
--- Alice's Fetch of a contract that has this id and salt
+-- Alice's Fetch of a contract that Bank issued to her, which the Fetch says to have this id and salt
 abbrev pub fetch : (id salt : Hash) → Act
 fetch id salt = record { seed = 50 ∷ []; action = Fetch id salt (contract bank alice) (alice ∷ []) }
 
@@ -220,7 +220,7 @@ is_framed q = is_that (request_for 0 1) q || (is_that (request_for 1 2) q || (is
 abbrev pub name_of : ParticipantId → Name
 name_of p = 80 ∷ (49 + p) ∷ []
 
--- The name of the sender that is shown of request n. In 22 P1 is said to be the sender, and in all others it is the sender.
+-- The name of the sender that is shown of request n. In 22 it is P1, whoever the sender is, and in all others the true sender's.
 abbrev pub said : (n sender : ℕ) → Name
 said n sender = name_of (if nat_eq n 22 then 0 else sender)
 
@@ -270,7 +270,8 @@ said_outline n views = if nat_eq n 27 then merged views else if nat_eq n 28 then
 abbrev pub outline_of : (n : ℕ) → Transaction → Forest Outlined
 outline_of n t = said_outline n (outlined n (paths_from [] 0 (views (roles_of language) t.roots)))
 
--- a view of request n as it is shown: with the informees and confirmers that are told of it
+-- A view of request n, given as it truly is, with the informees and confirmers that are told of it. So views are shown, but for those of the requests
+-- 27 and 28 (`said_views`).
 abbrev pub said_view : (n : ℕ) → OpenedView → OpenedView
 said_view n view =
     record {
@@ -315,11 +316,12 @@ misstated n shown =
       views = said_views n shown.views;
     }
 
--- whether the envelopes of request n show requesters or views that aren't so
+-- Whether the envelopes of request n go through `misstated`: 23 and all above 24. Those above 28 come out of it as they are.
 abbrev pub is_misstated : (n : ℕ) → Bool
 is_misstated n = nat_eq n 23 || nat_lt 24 n
 
--- The offer of a complete envelope of request n to who would be shown this by an honest sender. Missing where nothing would be (None).
+-- What a complete envelope of request n offers, where the second argument is what an honest sender would show in it. Missing where that is nothing
+-- (None).
 abbrev pub opening : (n : ℕ) → Option Shown → Offer
 opening n None = Missing
 opening n (Some shown) = Open (if is_misstated n then misstated n shown else shown)

@@ -41,8 +41,8 @@ pub fn one_ledger()
         → Consistent (ledger_acts (ledger_below r.is_approved r.whole end)) }
 {}
 
-/// In a log with its times and verdicts in order, a request that is decided at a place is approved over the whole log just where an Approved verdict
-/// on it stands before that place, and before a place where it is undecided none stands.
+/// In a log with its times and verdicts in order, a request that is decided at a place of the log is approved over the whole log just where an Approved
+/// verdict on it stands before that place, and before a place where it is undecided none stands. `confirms_signatory_of` has no part in it.
 pub fn decided_is_final()
     ensures { (reading : Reading) (params : Params) (log : List Entry) (confirms_signatory_of : ParticipantId → Hash → Bool)
         → Timely params log
@@ -199,7 +199,8 @@ pub fn each_rejection_holds_of_the_ledger()
         → CauseOf reading params log j (outcome_of (timeline_of log) j (decision_time_of params log j)) }
 {}
 
-/// In a genuine log a contract c that participant p counts as locked at place k is locked there: some undecided request creates or consumes it.
+/// In a genuine log a contract c that participant p counts as locked at place k is locked there: some undecided request below k creates or consumes it,
+/// by an authentic action that a complete envelope opens to somebody.
 pub fn what_counts_as_locked_is_locked()
     ensures { (reading : Reading) (params : Params) (log : List Entry) (p k : ℕ) (c : Hash)
         → Genuine reading params log
@@ -249,7 +250,7 @@ pub fn genuine_logs_grow()
         → Genuine reading params (log ++ entry ∷ []) }
 {}
 
-/// What the mediator decides on the request at place j over a log it decides over every longer one.
+/// What the mediator decides on the request at place j over a log it decides over every log that begins with this one.
 pub fn decisions_stay()
     ensures { (params : Params) (log more : List Entry) (j : ℕ) (decision : Decision)
         → scan params log j ≡ Some decision
@@ -374,8 +375,9 @@ pub fn worked_checks()
     ensures foreign_root_alice { verdicts_owed Worked.reading Worked.params 1 (inbox Worked.reading 1 (alone 10)) 0 ≡ v0 Approve ∷ [] }
 {}
 
-/// Verdicts that participants owe to the requests of senders that leave an envelope out, send another tree, or tell of a request what isn't so. Each
-/// clause computes those of one participant, 0 for Bank's, 1 for Alice's and 2 for Carol's; `other_informees_recipients` the recipients of request 23.
+/// Verdicts that participants owe to requests that lack an envelope, have another tree, claim what isn't so, or create a contract that has no
+/// signatory. Each clause computes those of one participant, 0 for Bank's, 1 for Alice's and 2 for Carol's; `other_informees_recipients` the recipients
+/// of request 23.
 pub fn worked_checks_of_tampered_requests()
     ensures no_envelope_bank { verdicts_owed Worked.reading Worked.params 0 (inbox Worked.reading 0 (asked 20)) 3
         ≡ v0 (Reject ViewMissing 0) ∷ v00 (Reject ViewMissing 0) ∷ [] }

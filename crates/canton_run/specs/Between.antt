@@ -45,8 +45,9 @@ pub record IsPartOf (script : Script) (part : Round) : Type 0 where
 abbrev pub IsSetupOf : Script → Setup → Type 0
 IsSetupOf script setup = script ≡ script_with setup script.triggers script.rounds
 
--- What has to hold before the submissions of a round are answered: the world is the script's synchroniser, lawful and with a time in range, the round
--- has begun on it, the packages name only parties of the topology, and the submissions do so too and are of participants that there are.
+-- What has to hold before the submissions of a round are answered: the world is the script's synchroniser, lawful and with a time in range, just the
+-- round's paused participants are paused in it, the topology is valid, the packages name only parties of it, and the submissions do so too and are of
+-- participants that there are.
 pub record CanBeAnswered (script : Script) (capacity : ℕ) (round : Round) (world : World) : Type 0 where
   pub machine : IsMachine (machine_for script capacity)
   pub state : MediatorState

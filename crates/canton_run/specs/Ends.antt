@@ -1,4 +1,5 @@
--- How a run may end. `left` and `left'` are the bytes that the source has left before the run and after it, None where it doesn't tell.
+-- How a run may end. `left` and `left'` are the bytes that the source has left before the run and after it, None where it doesn't tell. `finish` is
+-- how the run ended: its status, the script's fault, and the log and the other lists of what was run.
 use Rattle.std.specs.Prelude.{◌≡◌, ◌≢◌, ◌↔◌, ℕ, ◌+◌, ◌≤◌, ◌<◌, Bool, true, false, List, [], length, Option, option_map, Some, None, Ok, Err}
 use Rattle.std.proofs.Common.{◌⊎◌}
 use Rattle.std.specs.Io.KnownBytes.{Consumes, Keeps}
@@ -77,7 +78,8 @@ Did may (jobs.Dump workers log) left left' finish text = RanScript may (jobs.Dum
 abbrev pub Ran : Answers → List (List ℕ) → Option (List ℕ) → Option (List ℕ) → Finish → List ℕ → Type 0
 Ran may words left left' finish text = (job : Job) × (job_of words ≡ Some job) × Did may job left left' finish text
 
--- an audit of the bytes `dump` says yes, with the number of the log's entries and of its approved requests
+-- an audit of the bytes `dump` says yes, with how many entries the log of `finish` has, and how many approved requests; so an audit of a run's dump
+-- ends
 abbrev pub IsJudgedYes : Finish → (dump : List ℕ) → Type 0
 IsJudgedYes finish dump = IsAudit script_of most_of standard_of dump (Yes (length finish.log) (approved_in finish.log))
 

@@ -64,7 +64,7 @@ GivesScript (Commitments workers log) left left' bytes script = ReadsScript left
 GivesScript (Dump workers log) left left' bytes script = ReadsScript left left' bytes script
 GivesScript Audit left left' bytes script = ⊥
 
--- how many places of the log the requests of the job may need in all (`--log`); 0 for an audit
+-- how many places of the log the requests of the job may need in all (`--log`); the most that there may be for a generated script, and 0 for an audit
 abbrev pub capacity_of : Job → ℕ
 capacity_of (Run workers log) = log
 capacity_of (Gen count seed workers) = MOST_PLACES

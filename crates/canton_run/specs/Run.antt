@@ -96,7 +96,7 @@ pub record IsRun (may : Answers) (script : Script) (capacity workers : ℕ) (log
   -- no rule fired twice on a contract, each firing had its contract and its command, and on each contract that was active at the end of a
   -- first part, for a participant that wasn't paused, a rule of that has fired, or none may be answered
   pub causes : CausedHolds may script.triggers (reading_for script) (params_of script) log fired
-  -- each request with a command id that is kept for a rule of its sender is that of something that a rule caused
+  -- each request with a command id that is reserved for a rule of its sender is the request of a submission that a rule caused
   pub rules : (k : ℕ) (request : Request) → request_at log k ≡ Some request
       → is_rule_command script.triggers request.sender request.command ≡ true
       → (one : Caused) × Contains caused one × (x : RoundParts SubmitFault) × Contains (parts_of_run script results ends caused) x

@@ -147,9 +147,9 @@ fn no_text(alloc: Global, nodes: NodeList<'_>) -> Result<JobText, AllocError>
     })
 }
 
-/// What the job writes of a run, with what is left of its participants. `script` are the bytes that the script was read from, which a dump needs. A
-/// summary asks the participants for their active contracts alone, and commitments ask for those at the places at which participants are compared. An
-/// Err is want of memory.
+/// The text that the job writes of a run, nothing for an audit, with what is left of the run's participants. `script` are the bytes that the script was
+/// read from, which a dump needs. A summary asks the participants for their active contracts alone, and commitments ask for those at the places at
+/// which participants are compared. An Err is want of memory.
 pub fn text_of(
     alloc: Global,
     job: Job,

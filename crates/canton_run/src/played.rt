@@ -25,7 +25,7 @@ pub struct Played<'r> {
 }
 
 impl Played<'_> {
-    /// The sequencer's log alone, for a caller that wants nothing else of the run. All else is dropped, and the caller needn't prove how.
+    /// The log of the run's record alone, for a caller that wants nothing else of the run. All else is dropped, and the caller needn't prove how.
     pub fn into_log(self) -> EntryList
         ensures { result ≡ (self.entry.record).log }
     {

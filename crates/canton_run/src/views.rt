@@ -34,8 +34,8 @@ fn view_in(alloc: Global, rounds: &RoundList, node: Node<'_>) -> Result<NodeView
     NodeView::taken(alloc, node, restarted)
 }
 
-/// What each of the participants knows at its clean place once these rounds were played, in their order. What they know is taken out of them, and the
-/// rounds tell which of them restarted.
+/// What each of the participants, which are used up, knows at its clean place once these rounds were played, in their order. The rounds tell which of
+/// them restarted, and so are told with their base. An Err is want of memory.
 pub fn views_of(
     alloc: Global,
     rounds: &RoundList,
@@ -66,7 +66,7 @@ fn each_active(alloc: Global, nodes: &[Node<'_>]) -> Result<ActiveRowLists, Allo
     Ok(actives)
 }
 
-/// The active contracts of each participant at its clean place, in the order of the participants.
+/// The active contracts of each participant at its clean place, in the order of the participants, as a summary has them. An Err is want of memory.
 #[tactic(auto, using(crate::proofs::Actives::actives_are))]
 pub fn actives_of(alloc: Global, nodes: &[Node<'_>]) -> Result<ActiveRowLists, AllocError>
     ensures { (rounds : List ScriptRound) → IfOk result (λ actives. actives ≡ actives_in (map (view_in rounds) nodes.now)) }

@@ -34,7 +34,7 @@ form_behind (Some named) short = option named.0 named.1
 form_behind None (Some letters) = flag
 form_behind None None = plain
 
--- the form of a word
+-- the form of a word: `ending` of `--`, and of any other what `clap` finds behind its hyphens
 abbrev pub form_of : Text → Form
 form_of word = if bytes_eq word (codes "--") then ending else form_behind (long_of word) (short_of word)
 
@@ -57,13 +57,14 @@ abbrev pub text_of : Text → List Argument → Option Text
 text_of name [] = None
 text_of name (a ∷ given) = if bytes_eq a.0 name then Some a.1 else text_of name given
 
--- What `after` makes of the arguments with this option and its text added; None where the name isn't an option's or is given already.
+-- What `after` makes of the arguments `given` with the option `name` and its text behind them; None where the name isn't an option's or is given
+-- already.
 abbrev pub with_option : List Argument → Text → Text → (List Argument → Option (List Argument)) → Option (List Argument)
 with_option given name text after =
     if is_option name && not (is_given name given) then after (given ++ (name, text) ∷ []) else None
 
--- What `after` makes of the arguments `given` with this text as that of the first positional in the list of those to come, and of the others to come;
--- None where no positional is to come.
+-- What `after` makes of the arguments `given` with this text as that of the first positional to come, and of the names of those to come after it; the
+-- second argument lists the names of all to come. None where no positional is to come.
 abbrev pub with_positional : List Argument → List Text → Text → (List Argument → List Text → Option (List Argument))
     → Option (List Argument)
 with_positional given [] text after = None
@@ -71,8 +72,8 @@ with_positional given (name ∷ left) text after = after (given ++ (name, text) 
 
 -- ---- all words
 
--- The arguments `given` with those of the words after `--`, each of which is the text of the next positional; `left` names the positionals to come.
--- None where there are more words than these.
+-- The arguments `given` with those of the words behind a `--`, each of which is the text of the next positional; `left` names the positionals to come.
+-- None where there are more words than positionals to come.
 abbrev pub positionals_from : List Argument → List Text → List Text → Option (List Argument)
 positionals_from given left [] = Some given
 positionals_from given left (word ∷ words) =
@@ -88,7 +89,7 @@ by_form (option name None) last joined apart other = apart name
 by_form flag last joined apart other = None
 by_form plain last joined apart other = other tt
 
--- what `other` gives for a plain word; a word of another form is at fault, which None says
+-- what `other` gives for a plain word; None of a word of another form, which can't be the text of an option
 abbrev pub if_plain : Form → (Unit {0} → Option (List Argument)) → Option (List Argument)
 if_plain plain other = other tt
 if_plain _ other = None
@@ -105,13 +106,13 @@ abbrev mutual
       (λ name. text_from given left name words)
       (λ _. with_positional given left word (λ given' left'. arguments_from given' left' words))
 
-  -- The arguments `given` with those of the words, the first of which has to be the text of the option `name` and no word with a hyphen before
-  -- something; None where there is none or the words are at fault.
+  -- The arguments `given` with those of the words, the first of which has to be a plain one, the text of the option `name`; `left` names the
+  -- positionals to come. None where there is no word or the words are at fault.
   pub text_from : List Argument → List Text → Text → List Text → Option (List Argument)
   text_from given left name [] = None
   text_from given left name (word ∷ words) =
       if_plain (form_of word) (λ _. with_option given name word (λ given'. arguments_from given' left words))
 
--- The arguments that the words say, in any order; None where the words are at fault.
+-- The arguments that the words say, in the order of the words; None where the words are at fault. It is proved that `clap` reads words in UTF-8 so.
 abbrev pub arguments_of : List Text → Option (List Argument)
 arguments_of words = arguments_from [] positionals words

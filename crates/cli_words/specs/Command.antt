@@ -18,7 +18,7 @@ option_rule name = record (new_rule name) { long = Some name; action = Some Set 
 abbrev pub positional_rule : Text → Rule
 positional_rule name = record (new_rule name) { action = Some Set }
 
--- `clap`'s command with these arguments, and no help
+-- `clap`'s command with these rules of arguments; it has no help, and its words don't begin with the program's name
 abbrev app_with : List Rule → App
 app_with rules =
     record {
@@ -35,15 +35,15 @@ abbrev pub words_app : App
 words_app =
     app_with (option_rule (codes "workers") ∷ option_rule (codes "log") ∷ positional_rule (codes "count") ∷ positional_rule (codes "seed") ∷ [])
 
--- the kinds of error that `clap` may give at the words; none, an empty list, where it takes them
+-- the kinds of error that `clap` may give at the words; none, an empty list, where it takes them. A proof compares it with `arguments_of`.
 unfoldable pub words_fault : List Text → Kinds
 words_fault words = fault_of words_app words
 
--- what `clap` reads the words as: a row for each argument that they give, with its text
+-- what `clap` reads the words as: a row for each argument that they give, with its text. A proof compares it with `arguments_of`.
 unfoldable pub words_rows : List Text → List Row
 words_rows words = matches_of words_app words
 
--- the texts of the arguments that `clap` has found, None for one that isn't given
+-- the texts of the arguments in `clap`'s answer to the words, None for one that isn't given
 abbrev pub matches_given : ArgMatches → Given
 matches_given m =
     record {

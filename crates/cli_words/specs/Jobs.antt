@@ -21,15 +21,15 @@ None >>= f = None
 
 -- ---- numbers
 
--- the text that a reference points to; None of no reference
+-- the text that a reference points to; None of no reference. By it contracts say of code's texts what the definitions say of texts
 abbrev pub text_now : Option (Bor Text) → Option Text
 text_now = option_map (λ (s : Bor Text). s.now)
 
--- whether a text has 1 to 20 decimal digits and nothing else
+-- whether a text has 1 to 20 decimal digits and no other byte
 abbrev pub is_number : Text → Bool
 is_number text = nat_le 1 (length text) && nat_le (length text) MOST_DIGITS && list_all is_ascii_digit text
 
--- The number that a text writes, from `low` to `high`; None where it writes none of these.
+-- The number that a text writes, where it is from `low` to `high`; None where it is outside, or the text is no number as `is_number` has it.
 unfoldable pub number_in : ℕ → ℕ → Text → Option ℕ
 number_in low high text =
     if is_number text && nat_le low (digits_value 10 text) && nat_le (digits_value 10 text) high then Some (digits_value 10 text) else None
@@ -128,7 +128,8 @@ job_by command given =
     else if bytes_eq command (codes "gen") then gen_of given
     else None
 
--- The job that the words ask for, after the program's name; None where they are not accepted.
+-- The job that the words ask for, of which the first is the command; the program's name isn't among them. None where there is no word or they are at
+-- fault.
 unfoldable pub job_of : List Text → Option Job
 job_of [] = None
 job_of (command ∷ words) = given_of words >>= job_by command

@@ -1,4 +1,4 @@
-//! Words as a job.
+//! Words as a job. `alloc` gives the memory for reading; where it is wanting, the fault is Memory.
 ghost use Rattle.std.specs.Prelude.{◌≡◌, ◌≢◌, ◌↔◌, map, Some, None, IfOk, Err};
 ghost use Rattle.cli_words.specs.Arguments.{AreUtf8};
 ghost use Rattle.cli_words.specs.Jobs.{job_of};

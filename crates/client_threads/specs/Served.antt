@@ -14,7 +14,7 @@ use Rattle.world_play.specs.Results.{IsPlainResult, results_of}
 use Rattle.sync_shared.specs.Clients.{Seen}
 
 -- What participant p's client, which had seen the entries `first` when it began, has come back with: a result for each submission among `submits` that
--- is its participant's, in order, each right by what the client had seen. `now` is the round's time, `paused` are those paused in it, and `why` tells
+-- is its participant's, in order, each true by what the client had seen. `now` is the round's time, `paused` are those paused in it, and `why` tells
 -- why a submission wants no request.
 pub record IsServed (m : Machine) (why : Why SubmitFault) (now : ℕ) (paused : List ParticipantId) (first : List Entry) (submits : List Submission)
     (p : ParticipantId) (client : Seen) (results : List SubmitResult) : Type 0 where
@@ -24,7 +24,7 @@ pub record IsServed (m : Machine) (why : Why SubmitFault) (now : ℕ) (paused : 
   pub many : length results ≡ length (submissions_of p submits)
   -- no result is or holds want of memory
   pub plain : All IsPlainResult results
-  -- what each result says is so, by what the client had seen when it was answered
+  -- what each result says is true, by what the client had seen when it was answered
   pub answers : ClientAnswers m why now paused first (results_of (submissions_of p submits) results) client.list
   -- it was given a ticket for each request that was sent
   pub counted : client.tickets ≡ inputs.tickets (results_of (submissions_of p submits) results)

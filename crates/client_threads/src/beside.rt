@@ -120,9 +120,9 @@ fn serve_by_threads<
     all_of(alloc, brought?)
 }
 
-/// Each client submits what is its participant's of `submits`, beside as many lanes as `workers` has, which go on until they find nothing more to do.
-/// The result has each client, in the order of `clients`, with the results of its submissions; an Err is want of memory of one of them or for the
-/// threads. Where there are fewer than two submissions no thread is started, since it would cost more than it saves, and no lane works.
+/// Each client submits what is its participant's of `submits`, beside as many lanes as `workers` has, which go on until the clients have ended and they
+/// find nothing more to do. The result has each client, in the order of `clients`, with the results of its submissions; an Err is want of memory of a
+/// client, of a lane or for the lists. With fewer than two submissions no thread is started, since it would cost more than it saves, and no lane works.
 pub fn serve_beside<
     'r,
     S: Session + Send + Sync,

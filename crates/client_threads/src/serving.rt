@@ -60,7 +60,7 @@ fn serve<'r, S: Session, R: Wait>(
 }
 
 /// Lets each client submit what is its participant's of `submits`, one client after another in this thread. The result has each client, in the order of
-/// `clients`, with the results of its submissions; an Err is want of memory of one of them.
+/// `clients`, with the results of its submissions; an Err is want of memory of one of them or for the list.
 pub fn serve_in_turn<'r, S: Session, R: Wait>(
     rt: &R,
     alloc: Global,

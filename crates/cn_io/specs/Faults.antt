@@ -1,11 +1,11 @@
 -- The count of faults of a source or a sink.
 use Rattle.std.specs.Prelude.{ℕ, ◌+◌, ◌-◌, ◌^◌, ◌≤◌, min}
 
--- the greatest u64, at which the count of faults stands still
+-- the greatest u64, above which a count of calls or faults doesn't rise
 abbrev pub greatest : ℕ
 greatest = 2 ^ 64 - 1
 
--- one more than the count n, but at most the greatest u64, at which the count stands still
+-- one more than the count n, but at most the greatest u64: the count after a call or a fault
 abbrev pub counted : ℕ → ℕ
 counted n = min (n + 1) greatest
 

@@ -12,8 +12,9 @@ pub record Supply : Type 0 where
   pub calls : ℕ
   pub faults : ℕ
 
--- What contracts see of a `MemSink`: the bytes held, how many more it takes without asking for memory, how many a call takes at most, the numbers
--- of the calls that fail, counted from 1, and the counts of calls and of faults so far.
+-- What contracts see of a `MemSink`: the bytes held, how many more it takes without asking for memory, how many a call takes at most, the numbers,
+-- counted from 1, of the calls that are made to fail, and the counts of calls and of faults so far. A fault is a call that failed, listed or for want
+-- of memory.
 pub record Store : Type 0 where
   pub held : List ℕ
   pub room : ℕ
@@ -29,17 +30,17 @@ pub record Roomy : Type 0 where
   pub room : ℕ
   pub faults : ℕ
 
--- whether the number of a call, the first argument, is among these numbers of calls
+-- whether `call`, the number of a call, is among `calls`, the numbers of calls that are made to fail
 abbrev pub is_listed : ℕ → List ℕ → Bool
 is_listed call calls = list_any (λ c. c == call) calls
 
--- What a call of `put`, offered the bytes `from`, makes of the sink `store` in memory, which is store' afterwards. It counts as one call more, and
--- where it takes bytes, it takes as many as a call takes at most, or all where there are fewer.
+-- What a call of `put`, offered the bytes `from`, makes of the sink `store` in memory, which is store' afterwards. It counts as one call more and
+-- leaves the most that a call takes; an Ok says that it took that many bytes, or all of `from` where these are fewer.
 abbrev pub PutsPiece : {E : Type 0} → Store → List ℕ → Result ℕ E → Store → Type 0
 PutsPiece store from result store' =
     (store'.calls ≡ counted store.calls) × (store'.piece ≡ store.piece) × IfOk result (λ n. n ≡ min (length from) store.piece)
 
--- A call of `put`, offered the bytes `from`, to the sink `roomy` took all of them, or there was no room for all of them. What the sink is
--- afterwards, roomy', plays no part.
+-- What the result of a call of `put`, offered the bytes `from`, says of the sink `roomy` before it: an Ok that it took all of them, an Err that it had
+-- no room for all. What the sink is afterwards, roomy', plays no part.
 abbrev pub PutsWhole : {E : Type 0} → Roomy → List ℕ → Result ℕ E → Roomy → Type 0
 PutsWhole roomy from result roomy' = MatchResult result (λ n. n ≡ length from) (λ _. roomy.room < length from)

@@ -11,7 +11,7 @@ Puts held held' faults faults' result from = MatchResult result
     (λ n. (0 < n) × (n ≤ length from) × Appends held held' (take n from) × (faults' ≡ faults))
     (λ _. Keeps held held' × (faults' ≡ counted faults))
 
--- A call of `put`, offered the bytes `from`, added all of them and counted no fault, and the room was lowered by no more than it added.
+-- A call of `put`, offered the bytes `from`, didn't fail: it added all of them and counted no fault, and the room was lowered by no more than it added.
 abbrev pub TakesAll : {E : Type 0} → ℕ → ℕ → ℕ → ℕ → Result ℕ E → List ℕ → Type 0
 TakesAll faults faults' room room' result from = MatchResult result
     (λ n. (n ≡ length from) × (faults' ≡ faults) × (room ≤ room' + n))

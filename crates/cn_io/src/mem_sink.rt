@@ -1,4 +1,4 @@
-//! A sink in memory that fails where it is told to.
+//! A sink in memory that fails where it is told to. `alloc` gives the memory for its bytes.
 ghost use Rattle.std.specs.Prelude.{◌≡◌, ◌<◌, ◌≤◌, [], IsTrue, IsErr, IfOk, OnOk, OnErr, Some, min, length};
 ghost use Rattle.cn_io.specs.Faults.{counted};
 ghost use Rattle.cn_io.specs.Sink.{Puts, TakesAll};
@@ -39,8 +39,8 @@ impl Model for MemSink {
 }
 
 impl MemSink {
-    /// An empty sink that was not called yet. `piece` is how many bytes a call takes at most, and `fails` lists the calls that fail by their
-    /// number, from 1.
+    /// An empty sink that was not called yet. `piece` is how many bytes a call takes at most, one or more, and `fails` lists the numbers of the calls
+    /// that are made to fail, of which the first is 1.
     pub fn new(alloc: Global, piece: usize, fails: U64List) -> MemSink
         requires { 0 < piece }
         ensures { result ≡ record { held = []; room = 0; piece = piece; fails = fails; calls = 0; faults = 0 } }
@@ -54,7 +54,7 @@ impl MemSink {
         }
     }
 
-    /// Makes room for at least `n` more bytes, which then need no memory; after an error nothing has changed.
+    /// Makes room for at least `n` more bytes, which then need no memory. The error is want of memory; after it nothing has changed.
     pub fn reserve(&mut self, n: usize) -> Result<(), AllocError>
         ensures room { OnOk result (n ≤ self.new.room) }
         ensures same { self.new ≡ record self.old { room = self.new.room } }

@@ -39,8 +39,8 @@ impl Model for MemSource {
 }
 
 impl MemSource {
-    /// A source over `bytes` that was not called yet. `piece` is how many bytes a call moves at most, and `fails` lists the calls that fail by
-    /// their number, from 1.
+    /// A source over `bytes` that was not called yet. `piece` is how many bytes a call moves at most, one or more, and `fails` lists the numbers of the
+    /// calls that are made to fail, of which the first is 1.
     pub fn new(bytes: Bytes, piece: usize, fails: U64List) -> MemSource
         requires { 0 < piece }
         ensures { result ≡ record { left = bytes; piece = piece; fails = fails; calls = 0; faults = 0 } }

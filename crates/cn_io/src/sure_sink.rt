@@ -1,4 +1,4 @@
-//! A sink in memory that takes its room ahead.
+//! A sink in memory that takes its room ahead. `alloc` gives the memory for its bytes.
 ghost use Rattle.std.specs.Prelude.{◌≡◌, ◌≤◌, ◌<◌, [], IsErr, OnOk, OnErr, Some, length};
 ghost use Rattle.cn_io.specs.Faults.{counted};
 ghost use Rattle.cn_io.specs.Memory.{PutsWhole};
@@ -30,7 +30,7 @@ impl Model for SureSink {
 }
 
 impl SureSink {
-    /// An empty sink without room, which takes nothing until `reserve` makes some.
+    /// An empty sink without room: every `put` fails until `reserve` makes some.
     pub fn new(alloc: Global) -> SureSink
         ensures { result ≡ record { held = []; room = 0; faults = 0 } }
     {
@@ -40,7 +40,7 @@ impl SureSink {
         }
     }
 
-    /// Makes room for at least `n` more bytes; after an error nothing has changed.
+    /// Makes room for at least `n` more bytes. The error is want of memory; after it nothing has changed.
     pub fn reserve(&mut self, n: usize) -> Result<(), AllocError>
         ensures room { OnOk result (n ≤ self.new.room) }
         ensures kept { self.old.room ≤ self.new.room }

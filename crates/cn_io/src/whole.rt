@@ -29,8 +29,8 @@ pub enum ReadFault {
 /// How many bytes are asked for at once.
 const PIECE: usize = 4096;
 
-/// Reads all that is left of the source, where that is at most `limit` bytes. Of more it takes no more than one byte past the limit, which is TooLong.
-/// It stops at the first call that fails, which is Failed; want of memory is Memory.
+/// Reads all that is left of the source, in memory of `alloc`, where that is at most `limit` bytes. Of more it takes no more than one byte past the
+/// limit, which is TooLong. It stops at the first call that fails, which is Failed; want of memory is Memory.
 pub fn read_all<S: Source>(alloc: Global, source: &mut S, limit: usize) -> Result<Bytes, ReadFault>
     ensures whole { IfOk result (λ bytes. Consumes (S.left source.old) (S.left source.new) bytes
         × IsAtEnd (S.left source.new) × (length bytes ≤ limit)) }
@@ -64,8 +64,8 @@ pub fn read_all<S: Source>(alloc: Global, source: &mut S, limit: usize) -> Resul
     }
 }
 
-/// Writes all bytes. Each put is offered all that remain, and the first that fails is the error. Then a beginning of the bytes is written, which
-/// may be empty.
+/// Writes all bytes to the sink. Each `put` is offered all that remain, and the first that fails ends it with Failed; then the sink has taken the first
+/// bytes, perhaps none.
 pub fn write_all<K: Sink>(sink: &mut K, bytes: &[u8]) -> Result<(), Failed>
     ensures whole { OnOk result (Appends (K.held sink.old) (K.held sink.new) bytes.now) }
     ensures part { OnErr result (Rose (K.faults sink.old) (K.faults sink.new)

@@ -7,13 +7,13 @@ use Rattle.commitment_text.specs.Counterparties.{Counterparty}
 use Rattle.commitment_text.specs.Knowledge.{knowledge_of}
 use Rattle.commitment_text.specs.declared.active_at.ActiveAt.{ActiveAt}
 
--- a participant with its index in the topology and its name
+-- a participant with its index in the topology and its name, as contracts see one that was asked for its active contracts
 pub record NamedNode : Type 0 where
   pub number : ParticipantId
   pub name : List ℕ
   pub node : Participant
 
--- The participant as another one sees it.
+-- The participant as another one sees it: the same index and name, and what it knows of active contracts.
 abbrev pub counterparty_of : NamedNode → Counterparty
 counterparty_of named = record { number = named.number; name = named.name; knowledge = knowledge_of named.node }
 
@@ -26,6 +26,6 @@ counterparty_at p host (Some node) = record { number = p; name = host.name; know
 abbrev pub IsActiveAt : Participant → ActiveAt → Type 0
 IsActiveAt node at = at.rows ≡ (knowledge_of node).active_at at.place
 
--- All rows that were asked for are those of the participant's active contracts, each at its place.
+-- All rows that were asked for are those of the participant's active contracts, each at its place. It always holds of a participant that was asked.
 abbrev pub AreActiveAt : Participant → List ActiveAt → Type 0
 AreActiveAt node asked = All (IsActiveAt node) asked

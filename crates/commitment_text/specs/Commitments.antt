@@ -15,12 +15,14 @@ use Rattle.commitment_text.specs.Knowledge.{Knowledge}
 abbrev pub ids_shared : Reading → (other : ParticipantId) → Knowledge → (place : ℕ) → List (List ℕ)
 ids_shared reading other knowledge place = shared_ids reading other (knowledge.active_at place)
 
--- The words for what comparing two participants found: `equal` where their hashes agree (None), or `differ` with the first bucket in which they differ.
+-- The words for what comparing two participants found: `equal` where the roots of their trees of hashes are (None), or `differ` with the first bucket
+-- in which they differ.
 abbrev pub agreement_text : Option ℕ → List ℕ
 agreement_text None = codes "equal"
 agreement_text (Some bucket) = codes "differ " ++ decimal bucket
 
--- The words for whether two participants' sets of ids have one root. Where they haven't, they name the first bucket whose hashes differ.
+-- The words for whether two participants' sets of ids have one root: `equal`, or `differ` with the first bucket whose hashes differ. The arguments are
+-- the ids that each of the two shares with the other.
 abbrev pub agreement : (mine theirs : List (List ℕ)) → List ℕ
 agreement mine theirs = agreement_text (first_difference (set_of mine) (set_of theirs))
 

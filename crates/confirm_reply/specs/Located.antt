@@ -19,7 +19,8 @@ after_step None k = None
 after_step (Some []) k = None
 after_step (Some (step ∷ rest)) k = if nat_eq step k then Some rest else None
 
--- what is left of a wanted path after all steps of another path; None where the wanted one doesn't begin with that
+-- what is left of a wanted path, or of what of it is still to walk (first argument), after all steps of another path; None where the first argument is
+-- None or doesn't begin with these steps
 abbrev pub after_path : Option (List ℕ) → List ℕ → Option (List ℕ)
 after_path left [] = left
 after_path left (step ∷ path) = after_path (after_step left step) path

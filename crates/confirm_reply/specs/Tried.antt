@@ -55,7 +55,8 @@ pub record Matter : Type 0 where
 abbrev pub acts_in : List (Act × Actions) → List Act
 acts_in trees = map (λ (tree : Act × Actions). tree.0) trees
 
--- whether the number is that of the core's first action; false of the empty core
+-- whether the number n (second argument) is that of the core's first action; false of the empty core. Of a root view's first action the requesters'
+-- authority is tried.
 abbrev pub is_first : List ℕ → ℕ → Bool
 is_first [] n = false
 is_first (first ∷ rest) n = nat_eq first n
@@ -75,7 +76,8 @@ abbrev pub place_shown : (ℕ → Bool) → List ℕ → Option ℕ
 place_shown test [] = None
 place_shown test (n ∷ ns) = if test n then Some 0 else option_map suc (place_shown test ns)
 
--- Some 0 where the core's first number passes the test, else None; the other numbers aren't tried
+-- Some 0 where the core's first number passes the test, else None; the other numbers aren't tried. For the reasons that hang on the core's first action
+-- alone.
 abbrev pub first_alone : (ℕ → Bool) → List ℕ → Option ℕ
 first_alone test [] = None
 first_alone test (n ∷ ns) = if test n then Some 0 else None

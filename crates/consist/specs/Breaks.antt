@@ -9,7 +9,7 @@ use Rattle.ledger_model.specs.Consistency.{SameContract}
 
 -- The action a breaks consistency with the actions before it, `earlier`, in one of four ways.
 pub data Breaks (earlier : List Act) (a : Act) : Type 0 where
-  -- it isn't a Create, and none of its contract stands before it
+  -- it isn't a Create, and no Create of its contract stands before it
   NotCreated : is_create a.action ≡ false → list_any (creates (id_of a.action)) earlier ≡ false → Breaks earlier a
   -- it is a Create, and not the first on its contract
   CreatedLate : is_create a.action ≡ true → list_any (is_on (id_of a.action)) earlier ≡ true → Breaks earlier a
@@ -18,7 +18,7 @@ pub data Breaks (earlier : List Act) (a : Act) : Type 0 where
   -- an earlier action on its contract carries another instance
   OtherInstance : (b : Act) → Contains earlier b → SameContract b a → instance_of b.action ≢ instance_of a.action → Breaks earlier a
 
--- the action b is on contract c and carries another instance than i
+-- whether the action b is on contract c and carries another instance than i; the last of the tests of `breaks`
 abbrev pub differs : Hash → Instance → Act → Bool
 differs c i b = is_on c b && not (instance_eq.ghosts.eq (instance_of b.action) i)
 

@@ -2,15 +2,16 @@
 use Rattle.std.specs.Prelude.{◌≡◌, ℕ, ◌<◌, Bool, List, [], ◌∷◌, ◌++◌, Option, Some, None, map, take, slice_get, if◌then◌else◌}
 use Rattle.ledger_terms.specs.declared.act.Act.{Act}
 
--- the actions without their places
+-- the actions of a list in which each has its place, without the places
 abbrev pub acts_in : {P : Type 0} → List (P × Act) → List Act
 acts_in {P} placed = map (λ (x : P × Act). x.1) placed
 
--- `shows` holds of none of these actions, where it is asked of the actions before and the action.
+-- `shows` holds of none of these actions, where it is asked of the list of the actions before each and the action itself.
 abbrev pub NoneShows : (List Act → Act → Type 0) → List Act → Type 0
 NoneShows shows all = (i : ℕ) (a : Act) → slice_get all i ≡ Some a → shows (take i all) a → ⊥
 
--- At the place `at` stands the first of these actions of which `shows` holds, where it is asked of the actions before and the action.
+-- At the place `at` stands the first of these actions of which `shows` holds, where it is asked of the list of the actions before it and the action.
+-- `number` is its index in the list.
 pub record IsFirst {P : Type 0} (shows : List Act → Act → Type 0) (placed : List (P × Act)) (at : P) : Type 0 where
   pub number : ℕ
   pub act : Act

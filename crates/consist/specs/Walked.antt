@@ -11,8 +11,9 @@ placed_from above k NoRoots = []
 placed_from above k (Root act below others) =
     (above ++ k % 2 ^ 16 ∷ [], act) ∷ (placed_from (above ++ k % 2 ^ 16 ∷ []) 0 below ++ placed_from above (suc k) others)
 
--- What a walk over these placed actions leaves that stops at the first one which the test finds. Stopped (true), it leaves that action's path; gone
--- through all (false), it has met all actions and leaves the path with which it began.
+-- What a walk over placed actions leaves that stops at the first one which the test finds. It began with the actions `earlier` met and at `path`.
+-- Stopped (true), it leaves that action's path, and nothing is said of `met`; gone through all (false), it has met all of them too and is back at
+-- `path`.
 abbrev pub IsWalked : (List Act → Act → Bool) → (earlier : List Act) → (path : List ℕ) → (placed : List (List ℕ × Act)) → Bool → (met : List Act)
     → (left : List ℕ) → Type 0
 IsWalked test earlier path placed true met left = first_found test earlier placed ≡ Some left

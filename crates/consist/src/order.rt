@@ -24,7 +24,8 @@ fn first_unordered(alloc: Global, roots: &ActionNodeList) -> Result<Option<Path>
 }
 
 /// The path of a transaction's first action, in pre-order, on a contract that an earlier action consumes, or that creates a contract on which an
-/// earlier action is. None where there is no such action; Err is want of memory. A step of a path is kept in 16 bits.
+/// earlier action is. None where there is no such action; Err is want of memory. A step of a path is kept in 16 bits. The layers' tests (`layer_cases`)
+/// use it.
 pub fn find_unordered(alloc: Global, roots: &ActionNodeList) -> Result<Option<Path>, AllocError>
     ensures first { IfOk result (λ found. IfSome found (λ path. IsFirst IsUnordered (placed roots.now) path)) }
     ensures none { IfOk result (λ found. (found ≡ None) ↔ NoneShows IsUnordered (preorder roots.now)) }

@@ -44,8 +44,8 @@ rows_left ps = filter (is_left (acts_of ps)) (first_of_each (created_rows ps))
 abbrev pub ActiveIsLeft : Type 0
 ActiveIsLeft = (ps : List Placed) → InOrder ps → active_rows (written ps []) ≡ rows_left ps
 
--- Those of the store's active contracts with a stakeholder that the participant hosts are the model's active contracts among these actions. It is the
--- law `hosted_is_active`.
+-- Of a store into which actions were written in the order of their places, the active contracts with a stakeholder that the participant hosts are the
+-- model's active contracts among these actions. It is the law `hosted_is_active`.
 abbrev pub HostedIsActive : Type 0
 HostedIsActive = (reading : Reading) (party : ParticipantId) (ps : List Placed) → InOrder ps
     → filter (λ (a : ActiveRow). is_stakeholder_hosted reading party a.known.instance) (active_rows (written ps []))

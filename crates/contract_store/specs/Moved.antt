@@ -6,22 +6,23 @@ use Rattle.contract_store.specs.declared.hold.KeptHold.{KeptHold}
 use Rattle.contract_store.specs.Chains.{Link, is_live_at, Chains}
 use Rattle.contract_store.specs.Holds.{link_on, link_at, holds_of}
 
--- An index where it is below n, and else None: of what a map leads to, what is already among the n items that were moved.
+-- The index of the second argument where it is below n; None where it isn't, or is None. It leaves of what a map leads to only what is among the n
+-- items that were moved already.
 abbrev pub among : ℕ → Option ℕ → Option ℕ
 among n None = None
 among n (Some i) = if nat_lt i n then Some i else None
 
 module _ {K : Type 0} (eq : K → K → Bool) where
-  -- What holds of one key's chains between two steps: `moved` are the live ones of the items before index `next`, and `leads` leads from each key to
-  -- the last moved item with it, or where there is none to a live one that is still to be looked at.
+  -- What holds between two steps of that move of the chains by one kind of key, ids or places: `moved` are the live ones of the items before index
+  -- `next`, and `leads` leads from each key to the last moved item with it, or where there is none to a live one that is still to be looked at.
   pub record HalfMoved (links : List (Link K)) (next : ℕ) (moved : List (Link K)) (leads : K → Option ℕ) : Type 0 where
     pub chains : Chains eq moved (λ k. among (length moved) (leads k))
     pub places : (k : K) (i : ℕ) → leads k ≡ Some i → (i < length moved) ⊎ (next ≤ i)
     pub ahead : (k : K) (i : ℕ) → leads k ≡ Some i → next ≤ i → (l : Link K) × (slice_get links i ≡ Some l) × (is_live_at eq k l ≡ true)
     pub there : (i : ℕ) (l : Link K) → slice_get links i ≡ Some l → l.live ≡ true → is_some (leads l.key) ≡ true
 
--- What holds between two steps, where `held` are the kept holds before the first step: of those before index `next` the ones that were not released
--- are the first `to` of the vector now, and from `next` on all is as it was.
+-- What holds between two steps, where `held` are the kept holds before the first step and `slots` those now: of those before index `next` the ones that
+-- were not released are the first `to` now, from `next` on all is as it was, and the maps of ids and of places lead as `HalfMoved` says.
 pub record Moving (held : List KeptHold) (next to : ℕ) (slots : List KeptHold) (ids : List ℕ → Option ℕ) (places : ℕ → Option ℕ) : Type 0 where
   pub on : HalfMoved bytes_eq (map link_on held) next (map link_on (take to slots)) ids
   pub at : HalfMoved nat_eq (map link_at held) next (map link_at (take to slots)) places

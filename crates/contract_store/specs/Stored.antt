@@ -34,7 +34,7 @@ is_ready ready c = list_any (bytes_eq c) ready
 abbrev pub is_held : List Hold → Hash → Bool
 is_held holds c = list_any (λ (h : Hold). bytes_eq h.id c) holds
 
--- how many more entries a map takes without asking for memory
+-- how many more entries a map takes without asking for memory: the kit's `spare` of a map, under a name that contracts of this and other crates use
 abbrev pub map_room : {K X S : Type 0} → IndexMap K X S → ℕ
 map_room m = map_spare m
 
@@ -45,7 +45,8 @@ pub record LeadsToAll (rows : List KeptRow) (holds : List KeptHold) (ids : List 
   pub to_rows : LeadsToRows rows (λ c. row_behind (ids c)) salts
   pub to_holds : LeadsToHolds holds (λ c. hold_behind (ids c)) places
 
--- The second map has all keys of the first, which lead to what they led to, and what other keys it has lead to no row and no hold.
+-- The second map has all keys of the first, which lead to what they led to, and what other keys it has lead to no row and no hold. So a map of ids
+-- becomes where contracts are made ready.
 pub record Grows (ids ids' : List ℕ → Option ContractPlaces) : Type 0 where
   pub by_row : (c : List ℕ) → row_behind (ids' c) ≡ row_behind (ids c)
   pub by_hold : (c : List ℕ) → hold_behind (ids' c) ≡ hold_behind (ids c)

@@ -125,8 +125,9 @@ fn keep_live(
     slots.truncate(to);
 }
 
-/// Takes the released holds out of the vector `slots` where they are more than the others, so that on average each is passed once for a release; the
-/// maps of ids and of places then lead to where the others stand. `dead` is how many released ones the vector has.
+/// Takes the released holds out of the vector `slots` where they are more than the others, and else changes nothing; so on average it passes less than
+/// two holds for each that was released. The maps of ids and of places then lead to where the others stand. `dead` is how many released ones the vector
+/// has.
 pub fn drop_released(
     slots: &mut Vec<KeptHold>,
     ids: &mut IndexMap<Hash, ContractPlaces>,

@@ -22,7 +22,7 @@ pub fn place_behind(places: &IndexMap<u64, usize>, place: u64) -> Option<usize>
     places.get(&place).copied()
 }
 
-/// Lets the place of a request lead to the hold at the index `at`. Takes no memory.
+/// Lets the place of a request lead to the hold at the index `at`. Room was made for it, so it takes no memory.
 pub fn put_place(places: &mut IndexMap<u64, usize>, place: u64, at: usize)
     requires { 0 < spare places.old }
     ensures places { (p : ℕ) → get nat_eq places.new p ≡ (if nat_eq place p then Some at else get nat_eq places.old p) }
@@ -66,7 +66,7 @@ pub fn push_hold(
     put_place(places, hold.place, at);
 }
 
-/// The kept hold at an index of the vector, whether it was released or not.
+/// The kept hold at an index of the vector, whether it was released or not. The index has to be one of the vector's.
 pub fn slot_at(slots: &Vec<KeptHold>, at: usize) -> KeptHold
     requires { at < vec_len slots.now }
     ensures { slice_get slots.now.items at ≡ Some result }
@@ -161,8 +161,8 @@ fn release_next(
     slot.before_at
 }
 
-/// Releases the holds of the request at `place`: they stay in the vector `slots`, and the maps no longer lead to them. `dead` counts all that were
-/// released and are still in the vector.
+/// Releases the holds of the request at `place`: they stay in the vector `slots` as released ones, the place leads to none any more, and the id of each
+/// contract to the last hold on it that is left. `dead` counts all released ones that are in the vector.
 pub fn release_place(
     slots: &mut Vec<KeptHold>,
     ids: &mut IndexMap<Hash, ContractPlaces>,

@@ -32,7 +32,7 @@ abbrev pub acts_opened : Option OpenedTree → List Act
 acts_opened None = []
 acts_opened (Some opened) = acts (put_back (placed_forest opened.views))
 
--- the actions that complete ones of these envelopes open
+-- the actions, in order, that those of these envelopes of the request open which are complete
 abbrev pub acts_in : Topology → Request → List Envelope → List Act
 acts_in topology request [] = []
 acts_in topology request (envelope ∷ envelopes) =

@@ -29,7 +29,7 @@ abbrev pub asked_by : Topology → List ViewRoles → List ℕ
 asked_by topology views =
     filter (λ p. list_any (λ (view : ViewRoles). list_any (confirms_at topology.hosts p) view.confirmers) views) (participants_of topology)
 
--- The numbers go from `low` up to below `high`, each above the one before.
+-- Each of the numbers is at least `low`, less than `high` and greater than those before it, and `low` is at most `high`.
 abbrev pub RisesBetween : (low : ℕ) → List ℕ → (high : ℕ) → Type 0
 RisesBetween low [] high = low ≤ high
 RisesBetween low (n ∷ more) high = (low ≤ n) × RisesBetween (suc n) more high
@@ -69,7 +69,7 @@ abbrev pub is_confirmed : Topology → ViewRoles → Bool
 is_confirmed topology view =
     nat_lt 0 (length view.confirmers) && (is_subset view.confirmers view.informees && list_all (is_hosted topology) view.informees)
 
--- no vertex shows its contents
+-- no vertex, at any depth, shows its contents
 abbrev pub hides_contents : Vertices → Bool
 hides_contents NoVertices = true
 hides_contents (BlindVertex hash others) = hides_contents others
@@ -95,7 +95,7 @@ is_tree_framed topology confirming (Some tree) =
 abbrev pub are_bytes : List ℕ → Bool
 are_bytes bytes = list_all (λ b. nat_lt b 256) bytes
 
--- bytes within the limit of a tree
+-- these numbers are bytes, and at most as many as a tree may have, 4,194,304
 abbrev pub is_short : List ℕ → Bool
 is_short bytes = nat_le (length bytes) MOST_TREE_BYTES && are_bytes bytes
 

@@ -35,12 +35,13 @@ abbrev pub forest_in : Result (Forest Sets) WireFault → Forest Sets
 forest_in (Ok views) = views
 forest_in (Err fault) = NoRoots
 
--- the views that a tree tells, each with its informees and confirmers; none where there is no tree
+-- The views that a tree tells, each with its informees and confirmers. No views where there is no tree, or a vertex or an informees leaf of it is
+-- blinded or can't be read.
 abbrev pub outline_in : Option Tree → Forest Sets
 outline_in None = NoRoots
 outline_in (Some tree) = forest_in (roles_read tree.views)
 
--- the views that the mediator is told of, each with its informees and confirmers
+-- the views that the mediator is told of, each with its informees and confirmers; no views where these can't be read in its bytes
 abbrev pub outline_of : Request → Forest Sets
 outline_of request = outline_in (tree_in request.mediator)
 
@@ -49,7 +50,7 @@ abbrev pub root_in : Option Tree → List ℕ
 root_in None = []
 root_in (Some tree) = hash_of_root sha256 tree
 
--- the root hash of the mediator's tree of a request
+-- the root hash of the mediator's tree of a request, [] where its bytes spell no tree
 abbrev pub root_of : Request → List ℕ
 root_of request = root_in (tree_in request.mediator)
 
@@ -73,8 +74,8 @@ if_known topology Mismatch = Mismatch
 if_known topology Missing = Missing
 if_known topology (Open opened) = if names_known topology opened then Open opened else Missing
 
--- What an envelope with these bytes offers participant p: all that it is to see (Open); or a tree of the request in which something asked for can't be
--- read, or an action names a party that the topology lacks (Missing); or no tree with the mediator's root hash (Mismatch).
+-- What an envelope with these bytes offers participant p: all that it is to see (Open); or a tree of the request that doesn't show all of that, or in
+-- which it can't be read, or an action of which names a party that the topology lacks (Missing); or no tree with the mediator's root hash (Mismatch).
 abbrev pub offered_by : Topology → ℕ → Request → List ℕ → OpenedFor
 offered_by topology p request bytes =
     if_known topology (opened_for_root (root_of request) (paths_seen topology p request) (sees_root_view topology p request) bytes)
@@ -84,7 +85,7 @@ abbrev pub offered_in : Topology → ℕ → Request → Option (List ℕ) → O
 offered_in topology p request None = Missing
 offered_in topology p request (Some bytes) = offered_by topology p request bytes
 
--- what the envelope to participant p offers it
+-- what the first envelope to participant p offers it; Missing where there is no envelope
 abbrev pub offered : Topology → ℕ → Request → OpenedFor
 offered topology p request = offered_in topology p request (envelope_to p request.envelopes)
 
@@ -100,7 +101,8 @@ opened_to topology p request = complete_in (offered topology p request)
 
 -- ---- what complete envelopes say together
 
--- The tree's vertices with the paths that are opened, as a list of one, where something was opened and there is a tree; else no part.
+-- The part of an envelope, as a list of one: its tree's vertices, and the test `opens` of which paths it opens. Empty where nothing was opened (None),
+-- or where there is no tree.
 abbrev pub part_if : (opens : List ℕ → Bool) → Option OpenedTree → Option Tree → List Part
 part_if opens None tree = []
 part_if opens (Some opened) None = []

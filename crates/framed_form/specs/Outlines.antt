@@ -14,8 +14,8 @@ use Rattle.framed_form.specs.FramedForm.{outline_of, root_of}
 use Rattle.framed_form.specs.declared.outline.Outline.{Outline}
 use Rattle.framed_form.specs.declared.told_tree.ToldTree.{ToldTree}
 
--- What was read of a request is right: the mediator's bytes spell the tree `told.tree`, and this tells the sender and the roles of the views,
--- `told.roles`.
+-- `told` is what the mediator's bytes of a request tell: they spell the tree `told.tree`, in which at most 65,536 vertices stand side by side, and this
+-- tells the sender and the roles of the views, `told.roles`.
 pub record IsTold (request : Request) (told : ToldTree) : Type 0 where
   pub spells : tree_in request.mediator ≡ Some told.tree
   pub narrow : IsNarrow told.tree.views
@@ -30,7 +30,7 @@ pub record IsOutline (request : Request) (outline : Outline) : Type 0 where
   pub root : outline.root ≡ root_of request
   pub views : outline.views ≡ listed_views (outline_of request)
 
--- Where the message is a request, its mediator's bytes tell just this outline; where it is another message, nothing is said.
+-- Of a request: there is an outline, and it is what the mediator's bytes tell (`IsOutline`). Of a message that is no request nothing is said.
 abbrev pub IsOutlined : Message → Option Outline → Type 0
 IsOutlined (RequestMessage request) None = ⊥
 IsOutlined (RequestMessage request) (Some outline) = IsOutline request outline

@@ -10,8 +10,8 @@ use Rattle.view_split.specs.Holed.{inner}
 use Rattle.view_split.specs.declared.split_view.SplitView.{SplitView}
 use Rattle.view_split.specs.Split.{confirmers_in, core_acts}
 
--- A view's informees are those of its first action, and its confirmers those of its core, as a set. No other action of its core starts a view below it,
--- and the first action of each view directly below does.
+-- A view's informees are those of its first action, and its confirmers are the confirmers of all actions of its core, as a set. No other action of its
+-- core starts a view of its own there, and the first action of each view directly below does.
 pub record IsStructured (roles : Action → Roles) (view : SplitView) (subviews : Forest SplitView) : Type 0 where
   pub informees : view.informees ≡ its_informees roles view.first
   pub confirmers : view.confirmers ≡ set_of (confirmers_in roles (core_acts view))

@@ -76,8 +76,8 @@ pub fn requests_agree_where_a_log_does_not_collide()
         → AreAgreed request }
 {}
 
-/// Where the trees of a request agree, what a complete envelope opens are the topmost views of the whole that its participant sees,
-/// and the mediator is told the informees and confirmers of the whole.
+/// Where the trees of a request agree, the mediator can read its own, and the complete envelopes together open all views (`whole_views`): a complete
+/// envelope opens the topmost of these that its participant sees, and the mediator is told the informees and confirmers of these.
 pub fn complete_envelopes_open_parts_of_the_whole()
     ensures views { (topology : Topology) (request : Request) (tree : Tree) (outline : Forest Sets) (views : Forest SplitView) (p : ℕ) (opened : OpenedTree)
         → AreAgreed request → tree_in request.mediator ≡ Some tree → roles_read tree.views ≡ Ok outline → whole_views topology request ≡ Some views
@@ -121,8 +121,8 @@ pub fn vouched_framed_requests_are_sound()
         → IsSound (framed_reading topology packages) request }
 {}
 
-/// The reading of framed requests is a reading: what the ledger's definitions ask of a request it has, whoever sent it and
-/// whatever collides.
+/// The reading of framed requests is a reading (`IsReading`): what the ledger's definitions ask of a request it has, whoever sent it and whatever
+/// collides.
 pub fn framed_reading_is_reading()
     ensures { (topology : Topology) (packages : Packages) → IsReading (framed_reading topology packages) }
 {}

@@ -7,7 +7,7 @@ use Rattle.hash_id.specs.declared.tag.Tag.{Tag}
 use Rattle.hash_id.specs.declared.tag.Tag.TheVariants.{ContractId, ChildSeed, RootSeed, Leaf, View, Tree, LeafSalt}
 use Rattle.hash_id.specs.Tags.{tag_byte}
 
--- a number as four bytes, the high one first
+-- a number as four bytes, the high one first, as counts and indices stand in strings that are hashed
 abbrev pub be32 : ℕ → List ℕ
 be32 n = to_be_bytes w32 n
 
@@ -34,12 +34,12 @@ abbrev pub leaf_hash_string : ℕ → List ℕ → List ℕ → List ℕ
 leaf_hash_string kind salt bytes = (tag_byte Leaf ∷ []) ++ (kind ∷ []) ++ salt ++ bytes
 
 -- What is hashed for the salt of a leaf: the tag, the leaf's kind (1 common, 2 requesters, 3 informees, 4 contents), and the seed of the transaction
--- or of the view's first action.
+-- (kinds 1 and 2) or of the view's first action (3 and 4).
 abbrev pub leaf_salt_string : ℕ → List ℕ → List ℕ
 leaf_salt_string kind seed = (tag_byte LeafSalt ∷ []) ++ (kind ∷ []) ++ seed
 
--- What is hashed for a vertex or a whole tree, by its tag: the hashes of its two leaves, the count of the views directly below it, and their hashes
--- in order.
+-- What is hashed for a vertex or a whole tree: the byte of the tag (View or Tree), the hashes `first` and `second` of its two leaves, the count of the
+-- views directly below it, and their hashes in order.
 abbrev pub inner_string : Tag → List ℕ → List ℕ → List (List ℕ) → List ℕ
 inner_string tag first second below =
     (tag_byte tag ∷ []) ++ first ++ second ++ be32 (length below) ++ concat below

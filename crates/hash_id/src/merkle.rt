@@ -8,8 +8,8 @@ use crate::tag::Tag;
 use ledger_terms::Hash;
 use sha2::{Digest, Sha256};
 
-/// The salt of a leaf of that kind: 1 common, 2 requesters, 3 informees, 4 contents. It is hashed with the leaf's bytes, so that the hash doesn't
-/// give them away. The seed is that of the leaf's transaction or of its view's first action.
+/// The salt of a leaf of that kind: 1 common, 2 requesters, 3 informees, 4 contents. It is hashed with the leaf's bytes, so that the hash doesn't give
+/// them away. The seed is the transaction's for the kinds 1 and 2, and that of the view's first action for 3 and 4.
 pub fn leaf_salt(kind: u8, seed: &Hash) -> Hash
     ensures { result ≡ sha256 (leaf_salt_string kind seed.now) }
 {

@@ -26,8 +26,8 @@ authentic_at reading items m = filter reading.is_authentic (acts (opened_at item
 abbrev pub approves_first : List Item → Verdict → Bool
 approves_first before verdict = not (is_some (verdict_on verdict.request (moments before))) && is_approval (Some verdict.decision)
 
--- The actions that count from where this verdict is read after these items, each with its request's place: the authentic ones of its request, if it
--- is the first verdict on that and approves. None of them where there is no verdict.
+-- The actions that count because this verdict is read after these items, each with its request's place: the authentic opened ones of its request, if it
+-- is the first verdict on that and approves; else, and where there is no verdict, none.
 abbrev pub changes_of_verdict : Reading → List Item → Option Verdict → List Placed
 changes_of_verdict reading before None = []
 changes_of_verdict reading before (Some verdict) =
@@ -52,11 +52,13 @@ changes_in reading items = changes_after reading [] items
 abbrev pub creation_of : ActiveRow → Placed
 creation_of row = record { place = row.created_at; act = record { seed = row.known.salt; action = Create row.known.id row.known.instance } }
 
--- the Creates of the contracts that a start left active, and behind them the changes that the items of the inbox since bring
+-- the Creates of the contracts that a start left active, and behind them the authentic opened actions of the requests that these items of the inbox
+-- approve; a store that follows the inbox was written with them, in this order
 abbrev pub changes_since : Reading → Start → List Item → List Placed
 changes_since reading start items = map creation_of start.active ++ changes_in reading items
 
--- The contracts of a start were created in its order, below the base b, and the inbox has no request below b.
+-- The contracts of a start are listed by rising places of creation, which may repeat, these places are below the base b, and the inbox has no request
+-- below b.
 pub record StandsBelow (b : ℕ) (start : Start) (items : List Item) : Type 0 where
   pub order : InOrder (map creation_of start.active)
   pub below : All (λ (row : ActiveRow). row.created_at < b) start.active

@@ -38,7 +38,7 @@ pairs_in params items = pairs_from params (moments items) 0 items
 abbrev pub outcome_received : Params → List Item → ℕ → Option Outcome
 outcome_received params items place = option_map (λ (notice : Notice). kind_of (outcome_in params items place)) (notice_at items place)
 
--- whether a request that may not be there (None) is approved
+-- whether this outcome is Approved; false of None, which says that no request is tracked there
 abbrev pub is_approved : Option Outcome → Bool
 is_approved None = false
 is_approved (Some Undecided) = false
@@ -47,8 +47,8 @@ is_approved (Some Rejected) = false
 is_approved (Some TimedOut) = false
 is_approved (Some Expired) = false
 
--- A place is withheld exactly where the request that is tracked there is approved and its envelope doesn't open what the participant sees of it. It
--- is the law `withheld_is_tracked`.
+-- A place is withheld exactly where the request that is tracked there is approved, the participant sees a view of it, and its envelope isn't complete.
+-- It is the law `withheld_is_tracked`.
 abbrev pub WithheldIsTracked : Type 0
 WithheldIsTracked = (params : Params) (items : List Item) (place : ℕ)
     → is_withheld_in items place ≡ (is_approved (outcome_at (pairs_in params items) place) && is_kept_from (notice_at items place))

@@ -21,14 +21,15 @@ abbrev pub InStep : List Pair → Type 0
 InStep [] = Unit {0}
 InStep (p ∷ ps) = AllAfter p ps × InStep ps
 
--- Whatever actions f requests have: where the holds `old` are those of the requests undecided among `before`, the holds `new` are those of the
--- requests undecided among `after`.
+-- Whatever actions f the requests have, and below any place n: where the holds `old` are those of the requests undecided among `before`, the holds
+-- `new` are those of the requests undecided among `after`.
 abbrev pub HoldsFollow : (before after : List Pair) → (old new : List Hold) → Type 0
 HoldsFollow before after old new =
     (f : ℕ → List Act) (n : ℕ) → old ≡ holding (placed_below (is_open_at before) f n) → new ≡ holding (placed_below (is_open_at after) f n)
 
 -- What holds between two steps while requests late at `time` expire: `start` and `old` are the tracked requests and the holds before the first step,
--- `pairs` and `new` those now. No others expired, places and decision times rise as `InStep` says, and holds of the undecided requests are that still.
+-- `pairs` and `new` those now. So far only late ones expired, `InStep` holds now, and if `old` were the holds of what was undecided, `new` are of what
+-- is.
 pub record Passing (time : ℕ) (start pairs : List Pair) (old new : List Hold) : Type 0 where
   pub rest : expired time pairs ≡ expired time start
   pub in_step : InStep pairs

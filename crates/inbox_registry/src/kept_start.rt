@@ -64,7 +64,8 @@ impl KeptStart {
         }
     }
 
-    /// The start with these active contracts, in order of creation, and these ids of contracts that are gone, which rise.
+    /// The start with these active contracts, in order of creation, and these ids of contracts that are gone, which have to rise. An error says that
+    /// there is no memory.
     pub fn of(
         alloc: Global,
         active: ActiveRowList,

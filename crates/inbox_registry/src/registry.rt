@@ -123,8 +123,8 @@ impl Registry {
         self.tracker.clean()
     }
 
-    /// Tracks the request that comes at the cursor, whose decision time is `decision`, in microseconds, and makes room for its holds on the contracts
-    /// with these ids. After want of memory the request isn't tracked.
+    /// Tracks the request that comes at the cursor, where none is tracked yet, with its decision time `decision`, in microseconds, and makes room for
+    /// its holds on the contracts with these ids. After want of memory the request isn't tracked.
     pub fn begin(&mut self, decision: u64, ids: &HashList) -> Result<(), AllocError>
         requires { tracked_at self.old.tracking.pairs self.old.tracking.cursor ≡ None }
         ensures rows { self.new.store.rows ≡ self.old.store.rows }
@@ -142,7 +142,7 @@ impl Registry {
         self.tracker.begin(place, decision)
     }
 
-    /// Makes room for these changes, so that they can be written without memory.
+    /// Makes room for these changes, so that they can be written without memory. After want of memory rows, holds and tracked requests are as before.
     pub fn make_room(&mut self, changes: &Vec<Change>) -> Result<(), AllocError>
         ensures rows { self.new.store.rows ≡ self.old.store.rows }
         ensures holds { self.new.store.holds ≡ self.old.store.holds }
@@ -153,7 +153,8 @@ impl Registry {
         make_room(&mut self.store, changes)
     }
 
-    /// Lets each undecided request expire whose decision time is before `time`, in microseconds, and releases its holds.
+    /// Lets each undecided request expire whose decision time is before `time`, in microseconds, and releases its holds. The tracked requests' places
+    /// and decision times have to rise (`InStep`).
     pub fn pass(&mut self, time: u64)
         requires { InStep self.old.tracking.pairs }
         ensures pairs { self.new.tracking.pairs ≡ expired time self.old.tracking.pairs }
@@ -179,8 +180,8 @@ impl Registry {
         hold_all(&mut self.store, place, ids);
     }
 
-    /// Gives the request at a place this outcome, releases its holds and writes these changes: those of the request where it is approved, and else
-    /// none. Room was made for them, so it takes no memory.
+    /// Gives the request at a place this outcome, if it is tracked, releases its holds and writes these changes. The caller hands in those of the
+    /// request where it is approved, and else none. Room was made for them, so it takes no memory.
     pub fn settle(&mut self, place: u64, outcome: Outcome, changes: Vec<Change>)
         requires { HasRoom self.old.store.ready self.old.store.spare changes.items }
         ensures rows { self.new.store.rows ≡ write_changes place changes.items self.old.store.rows }

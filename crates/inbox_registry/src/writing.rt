@@ -8,7 +8,9 @@ use crate::change::Change;
 use contract_store::{HashList, Store};
 use std::alloc::AllocError;
 
-/// Makes room in a store for these changes, so that `write_all` takes no memory.
+/// Makes room in a store for these changes, so that `write_all` takes no memory. After want of memory rows and holds are as before.
+/// seq_log/specs/Admitted.antt:IsAdmitted Where the message is taken and is a request, the outline that comes with it is what its mediator's bytes
+/// tell. Of another message, or of one that is refused, it says nothing.
 pub fn make_room(store: &mut Store, changes: &Vec<Change>) -> Result<(), AllocError>
     ensures rows { store.new.rows ≡ store.old.rows }
     ensures holds { store.new.holds ≡ store.old.holds }

@@ -198,19 +198,20 @@ abbrev pub level : Packages → List Known → Runner → Runner
 level packages known run progress path seed by demand =
     cond (nat_le MOST_ACTIONS progress.count) (Err (TooMany path)) (do_demand packages known run progress path seed by demand)
 
--- What runs an action and all below it in at most so many levels (the first argument), over these packages and known contracts. It is TooDeep where no
--- level is left.
+-- What runs an action and all below it, at most as many levels as the first argument says, over these packages and known contracts. It is TooDeep where
+-- no level is left.
 unfoldable pub act : ℕ → Packages → List Known → Runner
 act zero packages known = λ progress path seed by demand. Err (TooDeep path)
 act (suc left) packages known = level packages known (act left packages known)
 
--- What the code's `act` answers, an action or a fault, and the progress that it leaves where it was handed in, as `act` here answers both.
+-- What the code's `act` answers, an action or a fault, and the progress that it leaves where it was handed in, as `act` here answers both; so contracts
+-- compare them. With a fault the progress has no effect.
 abbrev pub action_answer : Result ActionNode CommandFault → Progress → Result (ActionNode × Progress) CommandFault
 action_answer (Ok node) progress = Ok (node, progress)
 action_answer (Err e) progress = Err e
 
--- What the code's `follow` answers, a result or a fault, and the children and the progress that it leaves where they were handed in, as `follow`
--- here answers all three.
+-- What the code's `follow` answers, a result or a fault, and the children and the progress that it leaves where they were handed in, as `follow` here
+-- answers all three; so contracts compare them. With a fault children and progress have no effect.
 abbrev pub body_answer : Result Value CommandFault → Actions → Progress → Result BodyRun CommandFault
 body_answer (Ok v) children progress = Ok (record { children = children; result = v; progress = progress })
 body_answer (Err e) children progress = Err e

@@ -13,7 +13,8 @@ use Rattle.interpret.specs.Act.{Source, Turn, turn_of}
 use Rattle.interpret.specs.Commands.{command_turn}
 
 -- What is asked for at an index, after what was learnt of the children before. In order: the packages, the known contracts, the path of the Exercise
--- whose body asks, who asks (a body or commands), the index from 0, what was learnt (`seen`).
+-- whose body asks, who asks, the index from 0, what was learnt (`seen`). A body doesn't look at known contracts and index, and commands not at path and
+-- `seen`.
 abbrev pub asked_turn : Packages → List Known → List ℕ → Asking → ℕ → List ChildResult → Turn
 asked_turn packages known path (Body call) index seen = turn_of path (next packages call.now seen)
 asked_turn packages known path (Commands commands) index seen = command_turn packages known index (slice_get commands.now index)
@@ -23,7 +24,8 @@ abbrev pub learnt : Asking → List ChildResult → Action → List ChildResult
 learnt (Body call) seen a = seen ++ result_of_child a ∷ []
 learnt (Commands commands) seen a = []
 
--- the source of actions that a body or commands are, for what stands below this path
+-- What a body or commands ask for, as a source over these packages and known contracts. The path is that of the Exercise whose body asks; with commands
+-- it has no effect.
 abbrev pub source_of : Packages → List Known → List ℕ → Asking → Source
 source_of packages known path asking =
     record {

@@ -45,7 +45,8 @@ is_arg_named known (Contract r) = is_named known r
 abbrev pub are_named : List Known → List Arg → Bool
 are_named known args = list_all (λ a. is_arg_named known a) args
 
--- whether the id that is handed in with a contract, if it is a label, names a known contract; without an id, or with another one, it is true
+-- whether the reference that tells the id of a contract that is handed in, if it is a label, names a known contract; true where it is an id itself, and
+-- where there is none
 abbrev pub is_id_named : List Known → Option ContractRef → Bool
 is_id_named known None = true
 is_id_named known (Some r) = is_named known r
@@ -157,17 +158,20 @@ abbrev pub fill_tree : List Known → ℕ → List ℕ → Hash → ℕ → Draf
 fill_tree known left path seed count NoRoots = Ok (NoRoots, count)
 fill_tree known left path seed count (Root d children others) = fill_one known left path seed count d (λ n. fill_all known (left - 1) seed path 0 n children)
 
--- What the code's `fill_draft` answers, and the count of actions that it leaves where it was handed in, as `fill_tree` answers both.
+-- What the code's `fill_draft` answers, and the count of actions that it leaves where it was handed in, as `fill_tree` answers both; so contracts
+-- compare them. With a fault the count has no effect.
 abbrev pub node_answer : Result ActionNode CommandFault → ℕ → Result (Actions × ℕ) CommandFault
 node_answer (Ok n) count = Ok (tree_of n, count)
 node_answer (Err e) count = Err e
 
--- What the code's `fill_list` answers, and the count of actions that it leaves where it was handed in, as `fill_all` answers both.
+-- What the code's `fill_list` answers, and the count of actions that it leaves where it was handed in, as `fill_all` answers both; so contracts compare
+-- them. With a fault the count has no effect.
 abbrev pub list_answer : Result Actions CommandFault → ℕ → Result (Actions × ℕ) CommandFault
 list_answer (Ok f) count = Ok (f, count)
 list_answer (Err e) count = Err e
 
--- these trees in front of those that were filled; a fault stays one (for a proof about loops)
+-- the trees of the first argument in front of those that were filled, with the count of these; a fault stays that fault (only a proof about loops names
+-- it)
 abbrev pub behind : Actions → Result (Actions × ℕ) CommandFault → Result (Actions × ℕ) CommandFault
 behind front r = on r (λ y. Ok (join front y.0, y.1))
 

@@ -72,8 +72,8 @@ IsActionOf known seed (DraftExercise input choice args actors consuming result) 
 IsActionOf known seed (DraftFetch input actors) (Fetch id salt i actors') = IsInputOf known input id salt i × (actors' ≡ actors)
 IsActionOf known seed draft action = ⊥
 
--- The trees stand as the drafts do, each action is that of its draft and has the seed of its place below `seed`. In order: the known contracts, that
--- seed, the index of the first draft, the drafts, the trees.
+-- The trees have the shape of the drafts, and each action is that of its draft and has the seed of its place below `seed`. In order: the known
+-- contracts, that seed, the index of the first draft, the drafts, the trees.
 abbrev pub AreFilled : List Known → Hash → ℕ → Drafts → Actions → Type 0
 AreFilled known seed index NoRoots NoRoots = Unit {0}
 AreFilled known seed index (Root d drafts others) (Root act consequences more) =
@@ -108,8 +108,8 @@ is_contract_known known (DraftCreate template fields) = true
 is_contract_known known (DraftExercise input choice args actors consuming result) = is_input_known known input
 is_contract_known known (DraftFetch input actors) = is_input_known known input
 
--- The tests of one draft in order: its depth, its number, and whether its contract is known. Each is true where it passes, and has beside it its
--- fault where it is false.
+-- The tests of one draft in order: its depth of at most 16, its number below 64, and whether its contract is known. Each is true where it passes, and
+-- has beside it the fault that it gives where it is false.
 abbrev pub action_tests : List Known → Placed → List (Bool × CommandFault)
 action_tests known x =
     (nat_le (length (x.1).0) MOST_ACTION_DEPTH, TooDeep (x.1).0)
@@ -139,7 +139,8 @@ abbrev pub first_failing : List (Bool × CommandFault) → Option CommandFault
 first_failing [] = None
 first_failing (t ∷ ts) = if t.0 then first_failing ts else Some t.1
 
--- Drafts stop with this fault: the first test that fails gives it; or none does, and the encoded bytes exceed their limit.
+-- Drafts of a transaction with this seed stop with a fault (the last argument): the first test that fails gives it; or none fails, the encoded bytes of
+-- their transaction exceed the limit, and it is TooBig.
 abbrev pub FillStops : List Known → Hash → Drafts → CommandFault → Type 0
 FillStops known seed drafts fault =
     (first_failing (tests_of known drafts) ≡ Some fault)

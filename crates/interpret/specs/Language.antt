@@ -32,14 +32,14 @@ abbrev pub are_controllers : Result ChoiceParties EvalFault → PartyNames → B
 are_controllers (Ok p) actors = same_parties p.controllers actors
 are_controllers (Err e) actors = false
 
--- Whether a Create of the instance is possible: it keeps its limit, its `ensure` is true, it has a signatory, and its signatories and observers have
--- values.
+-- Whether an instance may be created, where its fields have the declared kinds, which the ledger asks apart: it keeps its limit, its template is there,
+-- its `ensure` is true, it has a signatory, and its signatories and observers have values.
 unfoldable pub is_creatable : Packages → Instance → Bool
 is_creatable packages i = is_small_instance i && has_value (parties_of_created packages i)
 
--- Whether an Exercise is possible that is this call, with these actors, so consuming and with this result. The arguments have the kinds of the choice
--- and keep their limit, the result keeps its own, the choice is as consuming as is said, its controllers are the actors, and its observers have a
--- value.
+-- Whether a call may be exercised with these actors, this flag of consuming and this result, where the contract's fields have their kinds, which the
+-- ledger asks apart: the arguments have the choice's kinds, arguments and result keep their limits, the flag is that of the choice, the actors are its
+-- controllers, and its observers have a value.
 unfoldable pub is_exercisable : Packages → ChoiceCall → PartyNames → Bool → Value → Bool
 is_exercisable packages call actors consuming result =
     call_has_kinds packages call
@@ -48,6 +48,7 @@ is_exercisable packages call actors consuming result =
     && (same_truth (is_consuming_call packages call) consuming
     && are_controllers (parties_of_choice packages call) actors)))
 
--- The language of the ledger, by which all rules of the ledger judge: that of these packages, with the tests of size above.
+-- The language of the ledger, by which all rules of the ledger judge: parties, roles, kinds and the steps of bodies are what these packages give, and
+-- whether a Create or an Exercise is possible is told by the two tests above, which look at sizes too.
 abbrev pub the_language : Packages → Language
 the_language packages = language_of packages (is_creatable packages) (is_exercisable packages)

@@ -40,9 +40,9 @@ abbrev pub evaluation_fault : {A : Type 0} → List ℕ → Result A EvalFault �
 evaluation_fault path (Err e) others = Some (Eval path e)
 evaluation_fault path (Ok a) others = others a
 
--- The fault of the first test of an Exercise that fails before its body, None where all pass: its contract is there, the arguments keep their limit,
--- controllers and choice observers have values, and there are controllers, all among the authorisers. In order: the packages, its path, its
--- authorisers, the contract that was looked up, the choice's name, the arguments.
+-- The fault of the first test of an Exercise that fails before its body, None where all pass: its contract is there, its evaluations have no fault
+-- (`call_controllers`), and it has actors, all among the authorisers. In order: the packages, its path, its authorisers, the contract that was looked
+-- up, the choice's name, the arguments.
 abbrev pub exercise_fault : Packages → List ℕ → PartyNames → Option Known → List ℕ → List Value → Option CommandFault
 exercise_fault packages path by None choice args = Some (ContractUnknown path)
 exercise_fault packages path by (Some k) choice args =
@@ -64,7 +64,7 @@ demand_fault packages known progress path by (ExerciseDemand t id choice args) =
     (usable packages known progress id t) choice args
 demand_fault packages known progress path by (FetchDemand t id) = fetch_fault packages path by (usable packages known progress id t)
 
--- whether a number is 0
+-- whether a number is 0, as that of the levels that are left
 abbrev pub is_zero : ℕ → Bool
 is_zero zero = true
 is_zero (suc n) = false
@@ -99,9 +99,9 @@ pub record IsBegun (packages : Packages) (known : List Known) (left : ℕ) (prog
 abbrev pub progress_inside : Packages → Progress → Known → List ℕ → List Value → Progress
 progress_inside packages progress k choice args = with_consumed (is_consuming_call packages (call_of k choice args)) k.id (with_action progress)
 
--- What a source asks for stops with a fault: at the place, the source has it, or the action that it asks for there fails that test first. In order:
--- packages, known contracts, levels left, source, authorisers, what was learnt of the children before, seed and path of what is above, index of the
--- next child, progress before it, the place as `Before` tells it from there on, the fault.
+-- What a source asks for stops with a fault at a place: the source itself gives it there, or the action asked for has it as its `first_fault`. In
+-- order: packages, known contracts, levels left, source, authorisers, what was learnt of the children before, seed and path of what is above, index of
+-- the next child, progress before it, the place as `Before` tells it from there on, the fault.
 abbrev pub Stops : Packages → List Known → ℕ → Source → PartyNames → List ChildResult → Hash → List ℕ → ℕ → Progress → Before → CommandFault → Type 0
 Stops packages known left source by seen seed path index progress Here fault =
     (source.turn index seen ≡ Stop fault)

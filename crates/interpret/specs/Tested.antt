@@ -24,14 +24,14 @@ abbrev pub controllers_of : Result ChoiceParties EvalFault → Result PartyNames
 controllers_of (Ok p) = Ok p.controllers
 controllers_of (Err e) = Err e
 
--- The signatories of a contract that is to be created, or the first fault: the size of the instance, its `ensure`, signatories and observers are tried
--- in this order. Fields of other kinds than the template's, which no checked body asks for, give Assert.
+-- The signatories of a contract that is to be created, or the first fault: the size of the instance (TooLarge), its `ensure`, signatories and observers
+-- are tried in this order. A template that isn't there, or fields of other kinds than its, which no checked body asks for, give Assert.
 unfoldable pub created_signatories : Packages → Instance → Result PartyNames EvalFault
 created_signatories packages i =
     cond (has_kinds packages i) (cond (is_small_instance i) (signatories_of (parties_of_created packages i)) (Err TooLarge)) (Err AssertFault)
 
--- The controllers of a call, or the first fault: the size of the arguments, the controllers and the choice observers are tried in this order. A choice
--- that isn't there, or arguments of other kinds, which no checked body asks for, give Assert.
+-- The controllers of a call, or the first fault: the size of the arguments (TooLarge), the controllers and the choice observers are tried in this
+-- order. A choice that isn't there, or arguments of other kinds than its, which no checked body asks for, give Assert.
 unfoldable pub call_controllers : Packages → ChoiceCall → Result PartyNames EvalFault
 call_controllers packages call =
     cond (call_has_kinds packages call) (cond (are_small_args call.args) (controllers_of (parties_of_choice packages call)) (Err TooLarge)) (Err AssertFault)
@@ -40,7 +40,8 @@ call_controllers packages call =
 unfoldable pub signers : Packages → Instance → PartyNames
 signers packages i = signatories_in (parties_if_typed packages i)
 
--- the actors of a Fetch of the instance: the set of those of its stakeholders that are among the authorisers `by`; empty where none is
+-- the actors of a Fetch of the instance: the set of those of its stakeholders that are among the authorisers `by`; empty where none is, and where the
+-- stakeholders have no values
 unfoldable pub fetchers : Packages → Instance → PartyNames → PartyNames
 fetchers packages i by = set_of (within (signatories_in (parties_if_typed packages i) ++ observers_in (parties_if_typed packages i)) by)
 

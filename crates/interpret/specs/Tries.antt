@@ -71,7 +71,8 @@ are_rest packages body seen (Root act consequences others) =
     (continues packages body seen act.action && (is_possible packages act.action && are_rest packages (body_of act.action) [] consequences))
     && are_rest packages body (seen ++ result_of_child act.action ∷ []) others
 
--- whether an action is possible with these consequences, as `reexecute` answers: by itself, and they are what its choice does
+-- Whether an action is possible with these consequences, as `reexecute` answers: it is possible by itself, and they are all that its choice does up to
+-- its result, each possible too with what is below it; below a Create and a Fetch there are none.
 abbrev pub is_tree_possible : Packages → Action → Actions → Bool
 is_tree_possible packages action consequences = is_possible packages action && are_rest packages (body_of action) [] consequences
 

@@ -26,7 +26,7 @@ find_salt salt known = find (λ k. same_hash k.salt salt) known
 abbrev pub is_consumed : Hash → List Hash → Bool
 is_consumed id consumed = list_any (λ d. same_hash d id) consumed
 
--- the first of two, where it is there, and else the second
+-- the first of two contracts, where it is there, and else the second; so a known contract goes before a created one
 abbrev pub first_found : Option Known → Option Known → Option Known
 first_found (Some k) other = Some k
 first_found None other = other
@@ -36,8 +36,8 @@ abbrev pub of_template : Packages → TemplateName → Option Known → Option K
 of_template packages template None = None
 of_template packages template (Some k) = cond (template_eq.ghosts.eq k.instance.template template && has_kinds packages k.instance) (Some k) None
 
--- The contract of that id and template that the next action of a transaction may use: it is known or the transaction created it, and the transaction
--- hasn't consumed it. None where there is no such contract.
+-- The contract of that id and template, with fields of its kinds, that the next action of a transaction may use: it is known or the transaction created
+-- it, and the transaction hasn't consumed it. None where there is no such contract.
 unfoldable pub usable : Packages → List Known → Progress → Hash → TemplateName → Option Known
 usable packages known progress id template =
     cond (is_consumed id progress.consumed) None

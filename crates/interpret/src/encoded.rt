@@ -18,8 +18,8 @@ fn action_bytes(action: &Action) -> u64
     (action_len(action) as u64).saturating_add(32)
 }
 
-/// The encoded bytes of a transaction's actions, by which its size is limited: the sum of 32 and the spelling's length over all actions, or
-/// the greatest u64 where that is more. An action without a spelling counts as more than any limit.
+/// The encoded bytes of a transaction's actions, by which its size is limited: the sum of 32 and the spelling's length over all actions, or the
+/// greatest u64 where that is more or where an action has no spelling.
 pub fn encoded_bytes(forest: &ActionNodeList) -> u64
     ensures { result ≡ capped (encoded_bytes forest.now) }
 {

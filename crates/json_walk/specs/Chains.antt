@@ -4,7 +4,8 @@ use Rattle.ledger_terms.specs.Pointers.{at_item, at_member}
 use Rattle.json_walk.specs.declared.chain.Chain.{Chain}
 use Rattle.json_walk.specs.declared.chain.Chain.TheVariants.{Root, Member', Item'}
 
--- the JSON pointer, as bytes, that the steps of a chain spell from the root down; that of the root is empty
+-- The JSON pointer, as bytes, that the steps of a chain spell from the root down: each of a member's name or an item's index i, behind those of
+-- `above`. That of the root is empty; the allocator and the argument p play no part.
 abbrev pub pointer_text : Chain → List ℕ
 pointer_text (Root alloc) = []
 pointer_text (Member' p above name) = at_member (pointer_text above) name.now

@@ -1,4 +1,4 @@
--- A list, read item by item.
+-- A list, read item by item. `Place` is where a value stands, `Data` a JSON value, A the type of what an item says.
 use Rattle.std.specs.Prelude.{ℕ, ◌≤◌, List, [], ◌∷◌, ◌++◌, Result, Ok}
 use denote.Ref.{Bor}
 use Rattle.serde_json.specs.Data.{Data}

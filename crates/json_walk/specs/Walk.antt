@@ -35,7 +35,7 @@ name_of at d = do
   _ ← check (is_name s) (Shape at)
   Ok s
 
--- whether a whole number is from `low` to `high`, both included; a negative one never is
+-- whether a whole number is from `low` to `high`, both included, as a limit asks it of a number; a negative one never is
 abbrev pub within : ℕ → ℕ → ℤ → Bool
 within low high (pos n) = nat_le low n && nat_le n high
 within low high (negsuc n) = false
@@ -66,7 +66,7 @@ members_among required optional no_members = true
 members_among required optional (member k d ms) =
     (is_among k required || is_among k optional) && members_among required optional ms
 
--- whether the value is an object with a member for each of the names `required`; of no names it is true of any value
+-- whether the value has a member for each of the names `required`, which only an object can have; of no names it is true of any value
 abbrev pub has_each : List (List ℕ) → Data → Bool
 has_each required d = list_all (λ k. is_some (get k d)) required
 
@@ -75,7 +75,7 @@ abbrev pub members_fit : List (List ℕ) → List (List ℕ) → Option Members 
 members_fit required optional None = false
 members_fit required optional (Some ms) = members_among required optional ms
 
--- whether the value is an object with the members `required`, and no others than these and those in `optional`
+-- whether the value is an object that has all the members `required`, and no others but some of `optional`
 unfoldable pub has_members : List (List ℕ) → List (List ℕ) → Data → Bool
 has_members required optional d = has_each required d && members_fit required optional (as_object d)
 
@@ -89,7 +89,8 @@ name_in at k d = do
   m ← member_of at k d
   name_of (at_member at k) m
 
--- the truth value in the member `k` of the object `d` at the place `at`; Shape at the object where it is absent, at the member where it is none
+-- the truth value in the member `k` of the object `d` at the place `at`; Shape at the object where it is absent, at the member where it is no truth
+-- value
 unfoldable pub truth_in : Place → List ℕ → Data → Result Bool WalkFault
 truth_in at k d = do
   m ← member_of at k d
@@ -110,7 +111,7 @@ truth_or at k d = truth_if (at_member at k) (get k d)
 unfoldable pub items_of : Place → Data → Result Items WalkFault
 items_of at d = ok_or (as_array d) (Shape at)
 
--- the two items of a list at the place `at` that has just two; Shape where it has more or fewer
+-- the two items of a list at the place `at` that has two, in order; Shape where it has more or fewer
 abbrev pub two_of : Place → Items → Result (Data × Data) WalkFault
 two_of at (item a (item b no_items)) = Ok (a, b)
 two_of at no_items = Err (Shape at)

@@ -1,4 +1,4 @@
-//! Steps from a value up to the whole.
+//! Steps from a value up to the whole. The only error is want of memory.
 ghost use Rattle.std.specs.Prelude.{◌≡◌, IfOk};
 ghost use Rattle.json_walk.specs.Chains.{pointer_text};
 

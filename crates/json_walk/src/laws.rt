@@ -5,7 +5,8 @@ ghost use Rattle.json_walk.specs.declared.limits.TheConstants.{FIELDS, LABEL_STE
 ghost use Rattle.json_walk.specs.declared.limits.TheConstants.{RAW_BYTES, RAWS, ROUNDS, RULE_NAME_BYTES, RULES};
 ghost use Rattle.json_walk.specs.declared.limits.TheConstants.{STATEMENTS, SUBMISSIONS, TEMPLATES, TEXT_BYTES, TIMEOUT};
 
-/// The limits of scripts and packages, as the formats have them: the number that a fault names, the least and the most.
+/// The limits of scripts and packages, as the formats have them: of each the number by which a fault names it, and the least and the most that it
+/// allows.
 pub fn limits_are_those_of_scripts()
     ensures topologies { (PARTICIPANTS ≡ record { number = 1; least = 1; most = 8 })
         × (PARTIES ≡ record { number = 2; least = 0; most = 128 })

@@ -1,4 +1,5 @@
-//! Lists, read item by item. `at` is the place of the list or value that is read; a fault Shape is there where a value has another form.
+//! Lists, read item by item. `at` is the place of the list or value that is read; a fault Shape is there where a value has another form. `alloc` gives
+//! the memory for what is read; where memory is wanting, also for the place in a fault, the fault is Memory.
 ghost use Rattle.std.specs.Prelude.{◌≡◌, ◌≢◌, ◌≤◌, ◌+◌, ℕ, List, [], length, Result, Ok, Err, MatchResult, IfOk, OnOk};
 ghost use Rattle.std.specs.Borrow.{Bor};
 ghost use Rattle.serde_json.specs.Data.{Data};
@@ -74,8 +75,8 @@ fn push_item<T: Drop, F: Fn(&Value, &Place) -> Result<T, WalkFault>>(
     Ok(())
 }
 
-/// What the items of the list at the place `at` say, in order: `read_item` reads each of them, given the item and its place. The first fault of an
-/// item is the result.
+/// What the items of the list at the place `at` say, in order: `read_item` reads each of them, given the item and its place. The first fault of an item
+/// is the result; no items give the empty list.
 pub fn read_each<T: Drop, F: Fn(&Value, &Place) -> Result<T, WalkFault>>(
     alloc: Global,
     items: &[Value],
@@ -171,9 +172,9 @@ fn read_each_counted<T: Drop, F: Fn(&Value, &Place, u64) -> Result<(T, u64), Wal
     Ok((list, count))
 }
 
-/// What the items of the list at the place `at` say, with the count after the last of them, 0 for an empty list. `read_item` takes what was counted
-/// in the items before, 0 at the first and never above `bound`, and gives the count after its item. Faults are as for lists that are not counted:
-/// Shape where it is no list, Limit where its length is outside the limit, else the first fault of an item.
+/// What the items of the list at the place `at` say, with the count after the last of them, 0 for an empty list. `read_item` takes what was counted in
+/// the items before, 0 at the first and never above `bound`, and gives the count after its item. Shape where the value is no list, Limit where its
+/// length is outside the limit, else the first fault of an item.
 #[tactic(auto, unfolding(crate::specs::Lists::counted_of))]
 pub fn read_counted<T: Drop, F: Fn(&Value, &Place, u64) -> Result<(T, u64), WalkFault>>(
     alloc: Global,

@@ -1,4 +1,5 @@
-//! The members of an object. `at` is the object's place, and `name` that of the member.
+//! The members of an object. `value` is the object, `at` its place, and `name` the name of the member. Where memory is wanting, also for the place in a
+//! fault, the fault is Memory.
 ghost use Rattle.std.specs.Prelude.{◌≡◌, ◌≢◌, MatchResult, map, is_some, Ok, Err};
 ghost use Rattle.std.specs.List.{list_all};
 ghost use Rattle.serde_json.specs.Find.{get};
@@ -13,7 +14,7 @@ use crate::walk_fault::WalkFault;
 use ledger_terms::Name;
 use serde_json::{Map, Value};
 
-/// Whether the value is an object that has the required members, and no others than these and the optional ones.
+/// Whether the value is an object that has all the required members, and no others than these and the optional ones; false of any other value.
 #[tactic(auto, unfolding(crate::specs::Walk::has_members))]
 pub fn fits(value: &Value, required: &[&str], optional: &[&str]) -> bool
     ensures { result
@@ -50,7 +51,8 @@ fn is_listed(key: &str, names: &[&str]) -> bool
     names.iter().any(|name| *name == key)
 }
 
-/// The value of the member `name`, which the object has to have; the fault Shape at the object where it is absent.
+/// The value of the member `name`, which the object has to have; the fault Shape at the object where it is absent,
+/// or where the value is no object.
 #[tactic(auto, unfolding(crate::specs::Walk::member_of))]
 pub fn member<'v>(value: &'v Value, at: &Place, name: &str) -> Result<&'v Value, WalkFault>
     ensures { MatchResult result (λ v. member_of at.now name.now (view value.now) ≡ Ok (view v.now))
@@ -71,7 +73,7 @@ pub fn name_in(value: &Value, at: &Place, name: &str) -> Result<Name, WalkFault>
     read_name(found, &at.member(name))
 }
 
-/// The truth value in the member `name`: Shape at the object where the member is absent, and at the member where its value is none.
+/// The truth value in the member `name`: Shape at the object where the member is absent, and at the member where its value is no truth value.
 #[tactic(auto, unfolding(crate::specs::Walk::truth_in))]
 pub fn truth_in(value: &Value, at: &Place, name: &str) -> Result<bool, WalkFault>
     ensures { Follows WalkFault.Memory result (truth_in at.now name.now (view value.now)) }

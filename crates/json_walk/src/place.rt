@@ -1,4 +1,4 @@
-//! Places in a JSON value.
+//! Places in a JSON value. The only error is want of memory.
 ghost use Rattle.std.specs.Prelude.{◌≡◌, [], IfOk};
 ghost use Rattle.ledger_terms.specs.Pointers.{at_member, at_item};
 
@@ -25,7 +25,7 @@ impl<'a> Model for Place<'a> {
 }
 
 impl<'a> Place<'a> {
-    /// The place of the whole value. The allocator is for the pointers that are made.
+    /// The place of the whole value, from which all others go on. `alloc` gives the memory for the pointers that are made of them.
     pub fn root(alloc: Global) -> Place<'a>
         ensures { result ≡ [] }
     {
@@ -52,7 +52,7 @@ impl<'a> Place<'a> {
         }
     }
 
-    /// The place as a JSON pointer, which a fault carries.
+    /// The place as a JSON pointer, in memory of its own, as a fault has it.
     pub fn pointer(&self) -> Result<Pointer, AllocError>
         ensures { IfOk result (λ p. p ≡ self.now) }
     {

@@ -1,4 +1,4 @@
-//! The smallest readers: a name, an integer in a range, a truth value.
+//! The smallest readers: a name, an integer in a range, a truth value. Where memory is wanting, also for the place in a fault, the fault is Memory.
 ghost use Rattle.std.specs.Prelude.{◌≡◌, ◌≢◌, ◌≤◌, MatchResult, OnOk};
 ghost use Rattle.ledger_terms.specs.Answers.{Follows};
 ghost use Rattle.serde_json.specs.View.{view};
@@ -19,7 +19,7 @@ pub fn shape<T>(at: &Place) -> Result<T, WalkFault>
     })
 }
 
-/// Ok where a count, a length or a depth is within the limit, and else the fault Limit with `found`, that number; `at` is the place of what is
+/// Ok where `found`, a count, a length or a depth, is within the limit, and else the fault Limit with that number; `at` is the place of what is
 /// counted.
 #[tactic(auto, unfolding(crate::specs::Walk::within_limit))]
 pub fn check_limit(at: &Place, limit: Limit, found: u64) -> Result<(), WalkFault>

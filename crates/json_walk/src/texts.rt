@@ -1,4 +1,4 @@
-//! Texts, and the names of templates.
+//! Texts, and the names of templates. Where memory is wanting, also for the place in a fault, the fault is Memory.
 ghost use Rattle.std.specs.Prelude.{◌≡◌, ◌<◌, option_map};
 ghost use Rattle.serde_json.specs.View.{view};
 ghost use Rattle.ledger_terms.specs.Answers.{Follows};
@@ -13,7 +13,7 @@ use ledger_terms::{Name, TemplateName, Text};
 use serde_json::Value;
 use std::alloc::Global;
 
-/// A copy of `text` in memory of its own, made with `alloc`; the fault Limit at the place `at` where it has more bytes than a text may have.
+/// A copy of `text` in memory of its own, which `alloc` gives; the fault Limit at the place `at` where it has more than 256 bytes.
 #[tactic(auto, unfolding(crate::specs::Texts::text_of))]
 pub fn read_text(alloc: Global, text: &str, at: &Place) -> Result<Text, WalkFault>
     ensures { Follows WalkFault.Memory result (text_of at.now text.now) }

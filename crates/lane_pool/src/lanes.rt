@@ -12,8 +12,8 @@ use std::sync::Wait;
 use std::thread::{Threads, join};
 
 /// Gives each of the lanes 0 to `lanes - 1` the turns 0 to `turns - 1` of `work`, side by side in threads that `rt` starts, each once. `start` is what
-/// turns are made of. Once a turn of any lane answers Err fewer are given, and the result is Err. All lanes have ended when it returns. It takes no
-/// memory of its own; where a thread can't be started, its lanes run in the caller's.
+/// turns are made of. Once a turn answers Err, which is want of memory, each lane stops before its next turn, and the result is Err. All lanes have
+/// ended when it returns. It takes no memory of its own; where a thread can't be started, its lanes run in the caller's.
 pub fn run_lanes<R: Threads + Wait + Sync, L: Lane>(
     rt: &R,
     lanes: u32,

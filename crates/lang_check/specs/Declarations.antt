@@ -38,21 +38,22 @@ choice_name_at at name taken = do
   _ ← tried (not (same_name archive_name name)) Reserved at
   Ok more
 
--- nothing where the controllers and the observers of choice c of template t, which stands at this place, are sets of parties; else the first fault, of
--- controllers first
+-- Nothing where the controllers and the observers of a choice are sets of parties, else the first fault, of controllers first. In order: the place of
+-- the choice, its template t, the choice c.
 unfoldable pub choice_parties_at : Place → TemplateForm → ChoiceForm → Result ⊤ CheckFault
 choice_parties_at at t c = do
   _ ← expr_at (at_member at (codes "controllers")) (choice_scope t c) PartiesKind c.controllers
   expr_at (at_member at (codes "observers")) (choice_scope t c) PartiesKind c.observers
 
--- nothing where the body of choice c of template t, which stands at this place, is well typed, and its result has the kind that it returns, in the
--- scope after the body; else the first fault
+-- Nothing where the body of a choice is well typed and its result has the kind that it returns, in the scope after the body; else the first fault. In
+-- order: the place of the choice, the packages, its template t, the choice c.
 unfoldable pub choice_body_at : Place → Packages → TemplateForm → ChoiceForm → Result ⊤ CheckFault
 choice_body_at at packages t c = do
   end ← stmts_from (at_member at (codes "body")) 0 packages c.body (body_scope t c)
   expr_at (at_member at (codes "result")) end c.returns c.result
 
--- The check of one choice of template t, behind others with the names `taken`: the first fault, or these names with its own behind them.
+-- The check of one choice: the first fault, or the names `taken` of the choices in front of it, with its own behind them. In order: the place of the
+-- choice, the packages that it may name, its template t, the choice c, `taken`.
 unfoldable pub choice_from : Place → Packages → TemplateForm → ChoiceForm → NameLists → Result NameLists CheckFault
 choice_from at packages t c taken = do
   more ← choice_name_at (at_member at (codes "name")) c.name taken
@@ -88,7 +89,8 @@ template_from at packages t = do
   _ ← template_exprs_at at t
   choices_from (at_member at (codes "choices")) 0 packages t [] t.choices
 
--- the check of these templates, which are the i-th, from 0, and further ones of the list at `at`: nothing, or the first fault
+-- The check of these templates (the last argument), which are the i-th, from 0, and further ones of the list at `at`, and may name the templates of
+-- these packages: nothing, or the first fault.
 abbrev pub templates_from : Place → ℕ → Packages → List TemplateForm → Result ⊤ CheckFault
 templates_from at i packages [] = Ok tt
 templates_from at i packages (t ∷ ts) = template_from (at_item at i) packages t >>= λ _. templates_from at (i + 1) packages ts

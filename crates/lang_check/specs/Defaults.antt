@@ -42,11 +42,11 @@ IsOfContracts t i Ensure = val t.ensure (this_names t i) ≡ Ok (BoolValue false
 IsOfContracts t i NoSignatory = val t.signatories (this_names t i) ≡ Ok (Parties [])
 IsOfContracts t i f = IsOverLimit f
 
--- where two expressions have values under these names, these are of one kind
+-- where two expressions have values under these names, these are of one kind, as the operands of `Equal` have to be
 abbrev pub GiveAlike : ExprForm → ExprForm → Names → Type 0
 GiveAlike a b names = (x y : Value) → val a names ≡ Ok x → val b names ≡ Ok y → kind_of x ≡ kind_of y
 
--- each of the expressions, where it has a value, gives one of this kind
+-- each of the expressions, where it has a value under these names, gives one of kind k, as the members of a set have to
 abbrev pub AllGive : ExprForms → Names → Kind → Type 0
 AllGive NoExprs names k = Unit {0}
 AllGive (MoreExprs e es) names k = Gives e names k × AllGive es names k
@@ -78,7 +78,7 @@ abbrev mutual
 
 abbrev mutual
   -- The statement's expressions take no default, its test gives a truth value, its contract an id, and its template or choice is there. Of a
-  -- `when` it is so of the side that is taken. The statement begins with these names and these results of children.
+  -- `when` the side that is taken runs without a default. The statement begins with these names and these results of children.
   pub RunsWithoutDefault : StmtForm → Packages → Names → List ChildResult → Type 0
   RunsWithoutDefault (Bind x e) packages names seen = TakesNoDefault e names
   RunsWithoutDefault (Assert e) packages names seen = TakesNoDefault e names × Gives e names BoolKind

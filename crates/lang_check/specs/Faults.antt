@@ -14,7 +14,7 @@ Place = List ℕ
 abbrev pub fault : CheckKind → Place → CheckFault
 fault kind at = record { at = at; kind = kind }
 
--- the fault that stands for want of memory, at no place
+-- the answer of the code for want of memory, as a fault at no place
 abbrev pub want_of_memory : CheckFault
 want_of_memory = fault Memory []
 
@@ -28,13 +28,13 @@ Err e >>= f = Err e
 abbrev pub tried : Bool → CheckKind → Place → Result ⊤ CheckFault
 tried b kind at = if b then Ok tt else Err (fault kind at)
 
--- A stop of the code is right, where the walk of the definitions found this: it is at that walk's first fault, or for want of memory, of which
--- the definitions say nothing.
+-- A stop of the code agrees with what the walk of the definitions found (the second argument): it has the fault that the walk found, or it is for want
+-- of memory, and then this says nothing.
 abbrev pub StopsAt : {A : Type 0} → Stop → Result A CheckFault → Type 0
 StopsAt stops.Memory found = Unit {0}
 StopsAt (stops.Fault f) found = found ≡ Err f
 
--- The code answered as a walk of the definitions found: its value, as `view` shows it, is what the walk found, and where it stopped, it
--- stopped rightly.
+-- The code's answer agrees with what the walk of the definitions found (the last argument): its value, as `view` shows it, is the one that the walk
+-- found, and its stop is as `StopsAt` says. Contracts of the check's code are this.
 abbrev pub Walks : {A B : Type 0} → (A → B) → Result A Stop → Result B CheckFault → Type 0
 Walks view result found = MatchResult result (λ v. found ≡ Ok (view v)) (λ e. StopsAt e found)

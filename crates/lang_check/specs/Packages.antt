@@ -11,7 +11,7 @@ use Rattle.lang_check.specs.Faults.{Place, ◌>>=◌, tried}
 use Rattle.lang_check.specs.Statements.{is_among}
 use Rattle.lang_check.specs.Declarations.{NameLists, names_from, templates_from}
 
--- the names of the templates, in order
+-- the names of the templates, in order; the check tries that no two are the same
 abbrev pub template_names : List TemplateForm → NameLists
 template_names templates = map (λ (t : TemplateForm). t.name) templates
 

@@ -50,14 +50,15 @@ two_operands at j k whole a b = do
   _ ← in_place (at_item at 2) k b
   Ok whole
 
--- the kind `whole` where the walk of the operands has no fault, else that fault; so the code ends an operator, and a proof compares it
+-- The kind `whole` where the walk of the operands has no fault, else that fault. The contract of the code's `whole`, which ends an operator's walk,
+-- says it.
 abbrev pub whole_behind : Kind → Result ⊤ CheckFault → Result Kind CheckFault
 whole_behind whole operands = do
   _ ← operands
   Ok whole
 
--- The kind `whole` where the walk of the first operand has no fault and the second was found of kind k, else the first fault; so the code walks two
--- operands. In order: the operator's place, k, whole, and what the walks of the first and the second operand found.
+-- The kind `whole` where the walk of the first operand has no fault and the second was found of kind k, else the first fault: the contract of the
+-- code's `second_place` says it. In order: the operator's place, k, whole, and what the walks of the first and the second operand found.
 abbrev pub second_behind : Place → Kind → Kind → Result ⊤ CheckFault → Result Kind CheckFault → Result Kind CheckFault
 second_behind at k whole first b = do
   _ ← first

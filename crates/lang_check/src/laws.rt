@@ -37,9 +37,8 @@ pub fn values_have_their_kinds()
     ensures { (e : ExprForm) (names : Names) (k : Kind) (v : Value) → HasKind e (kinds_in names) k → val e names ≡ Ok v → kind_of v ≡ k }
 {}
 
-/// The body of a choice of checked packages asks only for templates and choices that are there, with fields and arguments of their kinds,
-/// and its result has the choice's kind. The call is of a contract and with arguments of their kinds, and each result of a child that it
-/// was told (`seen`) answers the step before it.
+/// Where fields and arguments of a call have their kinds, and each result of a child (`seen`) answers the step before it, the body of a choice of
+/// checked packages asks only for templates and choices that are there, with fields and arguments of their kinds, and its result has the choice's kind.
 pub fn bodies_ask_for_what_is_there()
     ensures { (packages : Packages) (call : ChoiceCall) (c : ChoiceForm) (seen : List ChildResult) (step : Step)
         → AreChecked packages

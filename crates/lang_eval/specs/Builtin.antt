@@ -12,8 +12,8 @@ use Rattle.ledger_terms.specs.Packages.{PackageForm, TemplateForm, ChoiceForm}
 abbrev pub archive_name : List ℕ
 archive_name = codes "Archive"
 
--- The choice Archive of a template whose signatories this expression gives. It consumes the contract, has no parameters and no
--- consequences, and is controlled by the signatories.
+-- The choice Archive of a template whose signatories this expression gives. It consumes the contract and gives Unit, has no parameters, choice
+-- observers or consequences, and is controlled by the signatories.
 abbrev pub archive_of : ExprForm → ChoiceForm
 archive_of signatories =
     record {
@@ -43,7 +43,7 @@ with_archive t =
 abbrev pub with_archives : PackageForm → PackageForm
 with_archives p = record { name = p.name; templates = map with_archive p.templates }
 
--- the expression of a set with one party, the value of this variable
+-- the expression of a set with one party, the value of the variable `name`, as of the signatories of a note or the controllers of Flash
 abbrev pub one_party : List ℕ → ExprForm
 one_party name = SetOf (MoreExprs (Var name) NoExprs)
 

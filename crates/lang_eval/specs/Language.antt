@@ -53,8 +53,8 @@ abbrev pub set_given : Result PartyNames RoleFault → PartyNames
 set_given (Ok s) = s
 set_given (Err e) = []
 
--- Whether an action has roles: the signatories and observers of its contract have values, of an Exercise the choice observers too, and
--- there is a signatory.
+-- Whether an action has roles: its contract's template is there, the fields have the declared kinds, signatories and observers have values, and
+-- somebody signs (`parties_if_typed`); of an Exercise choice, arguments and choice observers too (`observers_if_typed`).
 abbrev pub has_roles : Packages → Action → Bool
 has_roles packages (Create id i) = is_given (parties_if_typed packages i)
 has_roles packages (Exercise id salt i choice args actors consuming result) =
@@ -62,13 +62,13 @@ has_roles packages (Exercise id salt i choice args actors consuming result) =
     && is_given (observers_if_typed packages (record { id = id; instance = i; choice = choice; args = args }))
 has_roles packages (Fetch id salt i actors) = is_given (parties_if_typed packages i)
 
--- the step of a body that has no fault; None for a fault, which the ledger's language doesn't tell
+-- the step that the evaluation of a body gave, and None where it gave a fault: which one, the ledger's language doesn't tell
 abbrev pub step_in : Result Step EvalFault → Option Step
 step_in (Ok step) = Some step
 step_in (Err e) = None
 
--- The language of packages, as the ledger's rules ask for it. Which contracts may be created and which choices exercised hangs on sizes
--- too, so these two tests are given. The second is asked of a call, its actors, whether it is consuming, and its result.
+-- The language of packages, as the ledger's rules ask for it. Which contracts may be created and which choices exercised depends on limits of sizes
+-- too, so a caller gives these two tests. The second is asked of a call, its actors, whether it is consuming, and its result.
 abbrev pub language_of : Packages → (Instance → Bool) → (ChoiceCall → PartyNames → Bool → Value → Bool) → Language
 language_of packages is_creatable is_exercisable =
     record {
@@ -82,8 +82,8 @@ language_of packages is_creatable is_exercisable =
       next = λ call seen. step_in (next packages call seen);
     }
 
--- The five sets of an action's roles, which are empty as far as they have no values. They hang on no size, so that both tests of the
--- language may be any (law roles_hang_on_no_size).
+-- The five sets of an action's roles, where signatories, observers or choice observers that have no value count as no parties. None of the sets depends
+-- on a size, so the two tests that `language_of` asks for are just false here (law roles_hang_on_no_size).
 abbrev pub roles_in : Packages → Action → Roles
 roles_in packages action = roles_of (language_of packages (λ i. false) (λ call actors consuming result. false)) action
 

@@ -23,7 +23,8 @@ use Rattle.lang_eval.specs.Names.{Names}
 use Rattle.lang_eval.specs.Found.{Packages}
 use Rattle.lang_eval.specs.Parts.{PartyNames}
 
--- each of the parties passes the test `known`, which says of a party whether it is known, as to a topology
+-- Each of the parties passes the test `known`, which says of a party whether it is known, as to a topology. Laws say by it that what comes of known
+-- parties names no others.
 abbrev pub AreKnown : (known : List ℕ → Bool) → PartyNames → Type 0
 AreKnown known parties = list_all known parties ≡ true
 
@@ -126,14 +127,14 @@ parties_in_action (ExerciseAction id salt i choice args actors consuming result)
     parties_in_instance i ++ (parties_in_values args ++ (actors ++ parties_in_value result))
 parties_in_action (FetchAction id salt i actors) = parties_in_instance i ++ actors
 
--- the signatories and the observers of a contract, in one list
+-- the signatories and the observers of a contract, in one list, so that a law can say that all of them are known (parties_are_named)
 abbrev pub stakeholder_names : ContractParties → PartyNames
 stakeholder_names p = p.signatories ++ p.observers
 
--- the controllers and the observers of a call, in one list
+-- the controllers and the observers of a call, in one list, so that a law can say that all of them are known (parties_are_named)
 abbrev pub choice_party_names : ChoiceParties → PartyNames
 choice_party_names p = p.controllers ++ p.observers
 
--- the parties of an action's five sets, in one list
+-- the parties of an action's five sets, in one list, so that a law can say that all of them are known (roles_are_named)
 abbrev pub parties_in_roles : Roles → PartyNames
 parties_in_roles r = r.signatories ++ (r.observers ++ (r.actors ++ (r.informees ++ r.confirmers)))

@@ -36,12 +36,13 @@ with_args params args names = with_fields (codes "arg") params args names
 abbrev pub with_self : List ℕ → Names → Names
 with_self id names = bound_to (codes "self") (Contract id) names
 
--- the value of a binding, and None where there is no binding
+-- the value of a binding, and None where there is no binding; so contracts say what a look-up by name gives
 abbrev pub value_bound : Option Binding → Option Value
 value_bound None = None
 value_bound (Some b) = Some b.value
 
--- the value of the first field that is called `name`, of fields with these declarations and these values; None where none is
+-- The value of the first field that is called `name`, of fields with these declarations and these values; None where none is. The code looks a field up
+-- by it once it has read the owner's word and the dot.
 abbrev pub value_named : List ℕ → List FieldDecl → List Value → Option Value
 value_named name (d ∷ ds) (v ∷ vs) = cond (same_name d.name name) (Some v) (value_named name ds vs)
 value_named name ds vs = None

@@ -59,8 +59,8 @@ abbrev pub taken : Result Step EvalFault → (ChildResult → Names) → List Ch
 taken step binds [] = Stopped step
 taken step binds (s ∷ seen) = Went (binds s) seen
 
--- The end of one side of a `when`, before which these names were bound: of the names that are bound at its end only those are left. A stop stays a
--- stop.
+-- The end of one side of a `when`, before which `names` were bound: of the names that are bound at its end only the first are left, as many as `names`
+-- has. A stop stays a stop.
 abbrev pub closed : Names → Ran → Ran
 closed names (Stopped step) = Stopped step
 closed names (Went more seen) = Went (take (length names) more) seen
@@ -79,7 +79,7 @@ create_step t fields = with_value fields (λ vs. Ok (CreateNext t vs))
 abbrev pub exercise_step : TemplateName → List ℕ → Result (List ℕ) EvalFault → Result (List Value) EvalFault → Result Step EvalFault
 exercise_step t choice contract args = with_value contract (λ id. with_value args (λ vs. Ok (ExerciseNext t id choice vs)))
 
--- the step that fetches a contract, or the fault in the evaluation of its id
+-- the step that fetches a contract as one of template `t`, or the fault in the evaluation of its id
 abbrev pub fetch_step : TemplateName → Result (List ℕ) EvalFault → Result Step EvalFault
 fetch_step t contract = with_value contract (λ id. Ok (FetchNext t id))
 
@@ -106,8 +106,8 @@ abbrev mutual
 abbrev pub names_of : TemplateForm → ChoiceForm → ChoiceCall → Names
 names_of template choice call = with_args choice.params call.args (with_this template.fields call.instance.fields (with_self call.id []))
 
--- what a body does next whose statements ended so: the step or the fault at which they stopped; or, after the last one, Done with the value of the
--- choice's result, or that value's fault
+-- What the body of a choice does next whose statements ended as the second argument says: the step or the fault at which they stopped; or, where they
+-- went to their end, Done with the value of the choice's result, or that value's fault.
 abbrev pub ended : ChoiceForm → Ran → Result Step EvalFault
 ended choice (Stopped step) = step
 ended choice (Went names seen) = with_value (val choice.result names) (λ v. Ok (Done v))

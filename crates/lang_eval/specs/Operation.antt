@@ -7,7 +7,8 @@ use Rattle.lang_eval.specs.declared.operator.Operator.{Operator}
 use Rattle.lang_eval.specs.declared.operator.Operator.TheVariants.{Add, Subtract, Multiply, Less, LessEq, Equal, Cat, Union, Has}
 use Rattle.lang_eval.specs.Value.{Answer, sum_of, difference_of, product_of, is_less, is_less_eq, text_of, union_of, has_member}
 
--- what an operator gives of the values of its first and its second operand, or a fault
+-- What an operator gives of the values of its first and its second operand, or its fault: Overflow of a number, TooLarge of a text. Two values of any
+-- kinds may be compared by Equal; another operator gives Unit of kinds that aren't its own.
 abbrev pub operation : Operator → Value → Value → Answer
 operation Add a b = sum_of a b
 operation Subtract a b = difference_of a b

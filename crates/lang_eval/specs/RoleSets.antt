@@ -37,18 +37,21 @@ with_actors p actors informees =
 abbrev pub told_first : ContractParties → Bool → PartyNames
 told_first p consuming = if consuming then stakeholders_in p else p.signatories
 
--- the roles of a Create of this instance, which has no actors and of which the stakeholders are informed; or NoRoles
+-- the roles of a Create of this instance, which has no actors and of which the stakeholders are informed; NoRoles where `parties_if_typed` gives no
+-- parties of the instance
 abbrev pub create_roles : Packages → Instance → Result Roles RoleFault
 create_roles packages i = on_parties (parties_if_typed packages i) (λ p. Ok (with_actors p [] (stakeholders_in p)))
 
--- the roles of an Exercise, which is this call, with these actors; or NoRoles
+-- the roles of an Exercise, which is this call, with these actors; NoRoles where the parties of its contract or its choice observers aren't given
+-- (`parties_if_typed`, `observers_if_typed`)
 abbrev pub exercise_roles : Packages → ChoiceCall → (actors : PartyNames) → (consuming : Bool) → Result Roles RoleFault
 exercise_roles packages call actors consuming =
     on_parties (parties_if_typed packages call.instance) (λ p.
     on_parties (observers_if_typed packages call) (λ o.
     Ok (with_actors p actors (set_of (told_first p consuming ++ (actors ++ o))))))
 
--- the roles of a Fetch of this instance, of which the signatories and the actors are informed; or NoRoles
+-- the roles of a Fetch of this instance, of which the signatories and the actors are informed; NoRoles where `parties_if_typed` gives no parties of the
+-- instance
 abbrev pub fetch_roles : Packages → Instance → (actors : PartyNames) → Result Roles RoleFault
 fetch_roles packages i actors = on_parties (parties_if_typed packages i) (λ p. Ok (with_actors p actors (set_of (p.signatories ++ actors))))
 

@@ -32,7 +32,7 @@ kind_named name (b ∷ bs) = if same_name b.0 name then Some b.1 else kind_named
 abbrev pub names_in : Scope → List (List ℕ)
 names_in scope = map (λ (b : List ℕ × Kind). b.0) scope
 
--- no name stands twice
+-- no two of the names are the same
 abbrev pub AreDistinct : List (List ℕ) → Type 0
 AreDistinct [] = Unit {0}
 AreDistinct (name ∷ names) = IsNew name names × AreDistinct names
@@ -138,8 +138,9 @@ choice_scope t c = this_scope t ++ scope_of (codes "arg") c.params
 abbrev pub body_scope : TemplateForm → ChoiceForm → Scope
 body_scope t c = (codes "self", ContractKind) ∷ choice_scope t c
 
--- A choice of template t is well typed, where it may name the templates of these packages. Its name isn't Archive (`free`), its
--- parameters have different names, and its expressions and its body have their kinds.
+-- A choice of template t is well typed, where it may name the templates of these packages. Its name isn't Archive (`free`), its parameters have
+-- different names, controllers and observers are sets of parties, and its body is well typed and leaves a scope in which the result has the kind that
+-- the choice returns.
 pub record IsChoice (packages : Packages) (t : TemplateForm) (c : ChoiceForm) : Type 0 where
   pub free : same_name archive_name c.name ≡ false
   pub params : AreDistinct (decl_names c.params)
@@ -152,8 +153,8 @@ abbrev pub AreChoices : Packages → TemplateForm → List ChoiceForm → Type 0
 AreChoices packages t [] = Unit {0}
 AreChoices packages t (c ∷ cs) = IsChoice packages t c × AreChoices packages t cs
 
--- a template is well typed, where it may name the templates of these packages: its fields and its choices have different names (`names` of
--- the choices), and its expressions and its choices are well typed
+-- A template is well typed, where it may name the templates of these packages: no two of its fields have one name, nor two of its choices (`names`);
+-- `ensure` is a Bool, signatories and observers are sets of parties, and each choice is well typed.
 pub record IsTemplate (packages : Packages) (t : TemplateForm) : Type 0 where
   pub fields : AreDistinct (decl_names t.fields)
   pub ensure : HasKind t.ensure (this_scope t) BoolKind
@@ -178,7 +179,7 @@ pub record IsPackage (before : Packages) (p : PackageForm) : Type 0 where
   pub names : AreDistinct (map (λ (t : TemplateForm). t.name) p.templates)
   pub templates : AreTemplates (before ++ p ∷ []) p.templates
 
--- the second packages are well typed, each after the first ones and those that stand before it
+-- the second list of packages is well typed: each of them after those of the first list and those that stand before it in its own
 abbrev pub ArePackages : Packages → Packages → Type 0
 ArePackages before [] = Unit {0}
 ArePackages before (p ∷ ps) = IsPackage before p × ArePackages (before ++ p ∷ []) ps

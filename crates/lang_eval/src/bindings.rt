@@ -82,7 +82,8 @@ impl<'a> Bindings<'a> {
         made_value(self.made.as_slice(), name)
     }
 
-    /// Makes room for `count` more names. The names that are bound stay as they are, also after want of memory.
+    /// Makes room for `count` more names, as a Fetch does before it binds fields. No name is added, and after want of memory the names are as before,
+    /// too.
     pub fn reserve(&mut self, count: usize) -> Result<(), AllocError>
         ensures { self.new ≡ self.old }
     {
@@ -118,7 +119,8 @@ impl<'a> Bindings<'a> {
         Ok(())
     }
 
-    /// Forgets all names behind the first `len`. So the names that a `when` binds end with it.
+    /// Forgets all names behind the first `len`, and none where there are no more than that. The end of a `when` calls it for the names that its side
+    /// bound.
     #[tactic(auto, using(crate::proofs::Given::taken_of_two))]
     pub fn truncate(&mut self, len: usize)
         ensures { self.new ≡ take len self.old }

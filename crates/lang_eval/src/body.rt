@@ -361,7 +361,8 @@ fn next_under<'s>(
 }
 
 /// What the body of `choice`, which is a choice of `template`, does next in the call after `so_far`, the results of its children in order: a Create, an
-/// Exercise or a Fetch, or Done with the choice's result. An Err is the first fault of an evaluation, or want of memory.
+/// Exercise or a Fetch, or Done with the choice's result. An Err is the first fault of an evaluation, or want of memory. It is for who has looked both
+/// up.
 pub fn next_of_choice(
     alloc: Global,
     checked: &Checked,

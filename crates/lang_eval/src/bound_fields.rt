@@ -83,7 +83,7 @@ impl<'a> BoundFields<'a> {
         }
     }
 
-    /// No fields: for an evaluation without arguments, or without names.
+    /// No fields: where an evaluation has no arguments, or no names at all.
     pub fn none() -> BoundFields<'a>
         ensures { result ≡ [] }
     {
@@ -112,7 +112,7 @@ impl<'a> BoundFields<'a> {
         field_value(owner, self.decls, self.values, text)
     }
 
-    /// Forgets all fields behind the first `len`.
+    /// Forgets all fields behind the first `len`; where there are no more than that, it forgets none.
     #[tactic(auto, using(crate::proofs::Given::fields_taken))]
     pub fn truncate(&mut self, len: usize)
         ensures { self.new ≡ take len self.old }

@@ -26,7 +26,8 @@ impl<'a> Model for CallParts<'a> {
 }
 
 impl<'a> CallParts<'a> {
-    /// The call of the choice with this name and these arguments, on the contract with this id and instance.
+    /// The call of the choice with this name and these arguments, on the contract with this id and instance. It borrows them: so an Exercise's parties
+    /// are found without a copy of its parts.
     pub fn of(
         id: &'a Hash,
         instance: &'a Instance,

@@ -108,7 +108,7 @@ impl<'a> GivenNames<'a> {
         self.arguments.value(name)
     }
 
-    /// Forgets all names behind the first `len`.
+    /// Forgets all names behind the first `len`; where there are no more than that, it forgets none.
     #[tactic(auto, using(crate::proofs::Given::taken_of_two))]
     pub fn truncate(&mut self, len: usize)
         ensures { self.new ≡ take len self.old }

@@ -84,7 +84,7 @@ fn flash_body(alloc: Global) -> Result<StmtList, AllocError>
 }
 
 /// The choice Flash of notes, in the contract language. The note's owner controls it, and it doesn't consume the note: it creates a second note, with
-/// the text `flash`, and archives that.
+/// the text `flash`, and archives that. `note_package` has it, and the native for Flash says by it what it stands for.
 pub fn flash_choice(alloc: Global) -> Result<Choice, AllocError>
     ensures { IfOk result (λ c. c ≡ flash_form) }
 {

@@ -1,6 +1,7 @@
--- Expressions of the contract language: a value, or a list of an operator and its operands. In the definitions `hosts` is the topology, `at` the
--- place of what is read, `depth` how deep that stands, 1 for a whole expression and one more for its operands, and `d` the JSON value or `ds` the
--- items that are read. A fault Shape says that something has another form than it should.
+-- Expressions of the contract language: a value, or a list of an operator and its operands. In the definitions `hosts` is the topology, `at` the place
+-- of what is read, `depth` how deep that stands, 1 for a whole expression and one more for its operands, and `d` the JSON value or `ds` the items that
+-- are read. An Err is the first fault: Shape says that something has another form than it should, Limit that it stands too deep; other faults come of
+-- values inside (`Literals.antt`).
 use Rattle.std.specs.Prelude.{ℕ, ◌+◌, List, Option, Some, None, Result, Ok, Err, ok_or}
 use Rattle.serde_json.specs.Data.{Data, null, boolean, number, string, array, object, Items, no_items, item}
 use Rattle.serde_json.specs.Find.{as_str, get}
@@ -36,8 +37,8 @@ name_after at (item d no_items) = bound_name (at_item at 1) d
 name_after at no_items = Err (Shape at)
 name_after at (item d (item e ds)) = Err (Shape at)
 
--- One of five, by the operator: `name` for `var`, `pair` of the operator for one of two operands, `one` for `not`, `three` for `if`, `all` for
--- `set`. It tells how the items behind an operator are read.
+-- One of its last five arguments, by the operator: `name` for `var`, `pair` of the operator for one of two operands, `one` for `not`, `three` for `if`,
+-- `all` for `set`. The arguments are how the items behind each operator are read.
 abbrev pub by_operator : {A : Type 0} → Operator → A → (Binary → A) → A → A → A → A
 by_operator op.Var name pair one three all = name
 by_operator (op.Two b) name pair one three all = pair b
@@ -94,15 +95,15 @@ abbrev mutual
       >>= (λ y. Ok (Cond test x y))))
   cond_of hosts at depth (item a (item b (item c (item d ds)))) = Err (Shape at)
 
-  -- The operands of `set`, any number of them: reads the items, of which the first is item i of the list, and puts them in order behind `before`,
-  -- the operands that were read before.
+  -- The operands of a `set` that stands at `depth`: reads the items, of which the first here is item i of the list, and puts them in order behind
+  -- `before`, the operands that were read before.
   pub operands_from : List Host → Place → ℕ → ℕ → ExprForms → Items → Result ExprForms WalkFault
   operands_from hosts at depth i before no_items = Ok before
   operands_from hosts at depth i before (item d ds) =
       expr_of hosts (at_item at i) (depth + 1) d >>= (λ e. operands_from hosts at depth (i + 1) (exprs_join before (one_expr e)) ds)
 
--- the expression of the operator `o` with the items `ds` behind it, any number of them for `set`, and for another operator just as many as it takes,
--- else Shape. It is what `call_of` gives once it has tried the operator and the depth.
+-- The expression of the operator `o` with the items `ds` behind it, any number of them for `set`, and for another operator just as many as it takes,
+-- else Shape. It is what `call_of` gives once the operator and the depth are tried; a contract in `src/expr.rt` has it.
 abbrev pub applied_of : List Host → Place → ℕ → Operator → Items → Result ExprForm WalkFault
 applied_of hosts at depth o ds =
     by_operator o (name_after at ds) (λ b. pair_of hosts at depth b ds) (negated_of hosts at depth ds) (cond_of hosts at depth ds)
@@ -125,8 +126,8 @@ expr_if hosts at default (Some d) = expr_of hosts at 1 d
 unfoldable pub expr_or : List Host → Place → List ℕ → ExprForm → Data → Result ExprForm WalkFault
 expr_or hosts at k default d = expr_if hosts (at_member at k) default (get k d)
 
--- One step of a walk through a list of expressions at the place `at`: reads the whole expression `d` at index i and puts it behind `before`, those
--- read before.
+-- One step of a walk through a list of expressions at the place `at`: reads the whole expression `d` at index i and puts it behind `before`, the
+-- expressions that were read before.
 unfoldable pub expr_step : List Host → Place → ℕ → ExprForms → Data → Result ExprForms WalkFault
 expr_step hosts at i before d = do
   e ← expr_of hosts (at_item at i) 1 d

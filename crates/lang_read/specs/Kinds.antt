@@ -10,7 +10,7 @@ use Rattle.json_walk.specs.Walk.{Place}
 use Rattle.json_walk.specs.declared.walk_fault.WalkFault.{WalkFault}
 use Rattle.json_walk.specs.declared.walk_fault.WalkFault.TheVariants.{Shape}
 
--- the kind of values that a word names, as `Int`; None where it names none
+-- the kind of values that a word names, one of Unit, Int, Bool, Text, Party, Contract and Parties; None of any other word
 unfoldable pub kind_named : List ℕ → Option Kind
 kind_named s =
     if bytes_eq s (codes "Unit") then Some kind.Unit else (

@@ -39,8 +39,8 @@ parties_value_of hosts at d = do
   parties ← parties_of hosts (at_member at (codes "parties")) m
   Ok (value.Parties parties)
 
--- Nothing where an expression at this depth keeps the limit on depth, else the fault Limit. As expressions are tried before their operands, the first
--- that breaks it stands just one deeper than the limit.
+-- Nothing where an expression at this depth keeps the limit on depth, 16, else the fault Limit at its place. As expressions are tried before their
+-- operands, the first that breaks it stands at depth 17.
 abbrev pub within_depth : Place → ℕ → Result ⊤ WalkFault
 within_depth at depth = within_limit at EXPRESSION_DEPTH depth
 

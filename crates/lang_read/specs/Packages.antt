@@ -1,5 +1,6 @@
--- Packages: templates with their fields and choices. `hosts` is the topology, whose parties expressions may name, `at` the place of the value or
--- object `d` that is read. A fault Shape says that a value has another form than it should, or that a member is absent.
+-- Packages: templates with their fields and choices. `hosts` is the topology, whose parties expressions may name, `at` the place of the value or object
+-- `d` that is read. An Err is the first fault: Shape says that a value has another form than it should or that a member is absent; NotInteger, Limit
+-- and Unknown come of expressions inside (`Exprs.antt`) where nothing else is said.
 use Rattle.std.specs.Prelude.{ℕ, ◌+◌, Bool, true, List, [], ◌∷◌, Option, Some, None, Result, Ok, codes}
 use Rattle.serde_json.specs.Data.{Data}
 use Rattle.serde_json.specs.Find.{get}
@@ -41,7 +42,7 @@ kind_in at k d = do
   m ← member_of at k d
   kind_of (at_member at k) m
 
--- the declaration of a field or a parameter, an object with the members `name` and `type` alone; else Shape
+-- the declaration of a field or a parameter, its name and its kind, in an object with the members `name` and `type` alone; else Shape
 unfoldable pub decl_of : Place → Data → Result FieldDecl WalkFault
 decl_of at d = do
   _ ← check (has_members (codes "name" ∷ codes "type" ∷ []) [] d) (Shape at)
@@ -49,7 +50,7 @@ decl_of at d = do
   kind ← kind_in at (codes "type") d
   Ok (record { name = name; kind = kind })
 
--- the declarations in the member `fields` of a template, in order; Limit where there are too many
+-- the declarations in the member `fields` of a template, in order; Limit where there are more than 12
 unfoldable pub fields_in : Place → Data → Result (List FieldDecl) WalkFault
 fields_in at d = do
   m ← member_of at (codes "fields") d
@@ -92,8 +93,8 @@ choice_parties_of hosts at d = do
   observers ← expr_or hosts at (codes "observers") nobody d
   Ok (controllers, observers)
 
--- three parts of a choice: the kind of its result, the statements of its body, and the expression of its result. Where they are absent they are
--- Unit, no statement, and the value Unit
+-- three parts of a choice: the kind of its result, the statements of its body, and the expression of its result. Where a member is absent, its part is
+-- Unit, no statement, or the value Unit
 unfoldable pub outcome_of : List Host → Place → Data → Result (Kind × StmtForms × ExprForm) WalkFault
 outcome_of hosts at d = do
   returns ← returns_in at d
@@ -159,7 +160,7 @@ template_form_of hosts at d = do
   choices ← choices_in hosts at d
   Ok (record { name = name; fields = fields; ensure = ensure; signatories = parties.0; observers = parties.1; choices = choices })
 
--- the templates of the list `d`, in order, where the packages before it have `before` templates; Limit where there are too many with these
+-- the templates of the list `d`, in order, where the packages before it have `before` templates; Limit where there are more than 64 with these
 unfoldable pub templates_of : List Host → ℕ → Place → Data → Result (List TemplateForm) WalkFault
 templates_of hosts before at d = do
   items ← items_of at d

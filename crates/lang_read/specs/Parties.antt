@@ -11,7 +11,7 @@ use Rattle.json_walk.specs.Walk.{Place, name_of}
 use Rattle.json_walk.specs.declared.walk_fault.WalkFault.{WalkFault}
 use Rattle.json_walk.specs.declared.walk_fault.WalkFault.TheVariants.{Unknown}
 
--- whether some participant confirms for the party, which makes it a party of the topology; to observe it isn't enough
+-- whether some participant of the topology confirms for the party, so that a text may name it; that one observes it isn't enough
 abbrev pub is_hosted : List Host → List ℕ → Bool
 is_hosted hosts party = list_any (lists_party party) hosts
 

@@ -1,5 +1,6 @@
 -- Statements of a choice's body, which are counted with those below a `when`. `hosts` is the topology, `at` the place of the value `d` that is read,
--- `n` the number of statements that were counted before. A fault Shape says that a value has another form than it should.
+-- `n` the number of statements that were counted before. An Err is the first fault: Shape says that a value has another form than it should or that a
+-- member is absent, Limit that there are too many statements; other faults come of expressions inside (`Exprs.antt`).
 use Rattle.std.specs.Prelude.{ℕ, ◌+◌, Bool, List, [], ◌∷◌, if◌then◌else◌, Option, Some, None, Result, Ok, Err, codes}
 use Rattle.std.specs.Ordering.{nat_cmp, match_ordering}
 use Rattle.std.specs.Cmp.Lexicographic.{slice_cmp}
@@ -69,11 +70,12 @@ fetch_of hosts at d = do
 abbrev pub is_only : List ℕ → Data → Bool
 is_only k d = has_members (k ∷ []) [] d
 
--- what `reading`, which takes a place and a value, gives of the member `k` of the object `d` at the place `at`; Shape where that is absent
+-- What `reading`, which takes the place and the value of a member, gives of the member `k` of the object `d` at the place `at`; Shape where that is
+-- absent. So `simple_of` reads the one member of a statement.
 abbrev pub inside : (Place → Data → Result StmtForm WalkFault) → Place → List ℕ → Data → Result StmtForm WalkFault
 inside reading at k d = member_of at k d >>= reading (at_member at k)
 
--- a statement other than a `when`: an object whose one member says which it is; else Shape
+-- a statement other than a `when`: an object with one member, `let`, `assert`, `create`, `exercise` or `fetch`; else Shape
 unfoldable pub simple_of : List Host → Place → Data → Result StmtForm WalkFault
 simple_of hosts at d =
     if is_only (codes "let") d then inside (bind_of hosts) at (codes "let") d else (
@@ -100,15 +102,16 @@ abbrev mutual
   stmt_of hosts at n (string s) = Err (Shape at)
   stmt_of hosts at n (array ds) = Err (Shape at)
 
-  -- the `when` in the first member of that name among the members of an object at the place `at`, and the count after it
+  -- the `when` in the first member of that name among the members of an object at the place `at`, and the count after it; Shape where there is no such
+  -- member
   pub when_member : List Host → Place → ℕ → Members → Result (StmtForm × ℕ) WalkFault
   when_member hosts at n no_members = Err (Shape at)
   when_member hosts at n (member k d ms) =
       match_ordering (slice_cmp nat_cmp (codes "when") k) (when_member hosts at n ms) (when_of hosts (at_member at (codes "when")) n d)
       (when_member hosts at n ms)
 
-  -- the statement of the object in `{"when": ..}`: its test in `if`, the statements of `then`, and those of `else`, none where it is absent; and
-  -- the count after it
+  -- the statement of the object in `{"when": ..}`: its test in `if`, the statements of `then`, and the statements of `else`, none where it is absent;
+  -- and the count after it
   pub when_of : List Host → Place → ℕ → Data → Result (StmtForm × ℕ) WalkFault
   when_of hosts at n (object ms) =
       check (has_when_members (object ms)) (Shape at)
@@ -122,8 +125,8 @@ abbrev mutual
   when_of hosts at n (string s) = Err (Shape at)
   when_of hosts at n (array ds) = Err (Shape at)
 
-  -- the statements in the first member named `k` among those of an object at the place `at`, and the count after them; `absent` where there is no
-  -- such member
+  -- the statements in the first member named `k` among the members of an object at the place `at`, and the count after them; `absent` where no member
+  -- has that name
   pub block_member : List Host → Place → ℕ → List ℕ → Result (StmtForms × ℕ) WalkFault → Members → Result (StmtForms × ℕ) WalkFault
   block_member hosts at n k absent no_members = absent
   block_member hosts at n k absent (member l d ms) =
@@ -141,20 +144,22 @@ abbrev mutual
   block_of hosts at n (string s) = Err (Shape at)
   block_of hosts at n (object ms) = Err (Shape at)
 
-  -- Reads the items of a list of statements, of which the first is item i. `before` has the statements before them and the count so far, and the
-  -- result has both with these.
+  -- Reads the items of a list of statements, of which the first here is item i. `before` has the statements of the items before them and the count so
+  -- far, and the result has both with the statements that are read here.
   pub stmts_from : List Host → Place → ℕ → StmtForms × ℕ → Items → Result (StmtForms × ℕ) WalkFault
   stmts_from hosts at i before no_items = Ok before
   stmts_from hosts at i before (item d ds) =
       stmt_of hosts (at_item at i) before.1 d
       >>= (λ s. stmts_from hosts at (i + 1) (stmts_join before.0 (one_stmt s.0), s.1) ds)
 
--- the statements of a member at the place `at`, and the count after them; None, where there is no such member, gives `absent`
+-- the statements of a member at the place `at`, and the count after them; None, where there is no such member, gives `absent`. It is what
+-- `block_member` gives of the value of its member
 abbrev pub block_if : List Host → Place → ℕ → Result (StmtForms × ℕ) WalkFault → Option Data → Result (StmtForms × ℕ) WalkFault
 block_if hosts at n absent None = absent
 block_if hosts at n absent (Some d) = block_of hosts at n d
 
--- the statements in the member `else` of a `when`, none where it is absent, and the count after them
+-- the statements in the member `else` of the object `d` of a `when`, none where it is absent, and the count after them; a contract in `src/stmt.rt` has
+-- it
 abbrev pub else_of : List Host → Place → ℕ → Data → Result (StmtForms × ℕ) WalkFault
 else_of hosts at n d = block_if hosts (at_member at (codes "else")) n (Ok (NoStmts, n)) (get (codes "else") d)
 

@@ -22,7 +22,7 @@ pub enum Binary {
     Has,
 }
 
-/// The operator of two operands that a word names, as `add`; None where it names none of these.
+/// The operator of two operands that a word names, as `add`; None where it names none of these, as `not`, `if`, `set` and `var` do.
 #[tactic(auto, unfolding(crate::specs::Operators::binary_named))]
 pub fn binary_named(word: &str) -> Option<Binary>
     ensures { result ≡ binary_named word.now }

@@ -1,4 +1,5 @@
-//! Choices of a template.
+//! Choices of a template. A party for which nobody of the topology confirms is Unknown. `alloc` gives the memory for what is read; where memory is
+//! wanting, also for the place in a fault, the fault is Memory.
 ghost use Rattle.std.specs.Prelude.{◌≡◌};
 ghost use Rattle.serde_json.specs.View.{view};
 ghost use Rattle.ledger_terms.specs.Answers.{Follows, FollowsAs};
@@ -16,7 +17,8 @@ use serde_json::Value;
 use std::alloc::Global;
 use std::boxed::Box;
 
-/// The expression that stands for absent observers, of a template or a choice: the empty set of parties.
+/// The expression that stands for absent observers, of a template or a choice: the empty set of parties. It asks for no memory, which `alloc` would
+/// give to a longer list.
 #[tactic(auto, using(ledger_terms::proofs::ExprRows::form_SetOf))]
 pub fn nobody(alloc: Global) -> Expr
     ensures { expr_form result ≡ nobody }

@@ -1,4 +1,5 @@
-//! Expressions of a package.
+//! Expressions of a package. A party for which nobody of the topology confirms is Unknown. `alloc` gives the memory for what is read; where memory is
+//! wanting, also for the place in a fault, the fault is Memory.
 ghost use Rattle.std.specs.Prelude.{◌≡◌, ◌≤◌, ◌<◌, ◌+◌, drop, vec_len};
 ghost use Rattle.serde_json.specs.View.{view, items_view};
 ghost use Rattle.ledger_terms.specs.Syntax.{NoExprs};
@@ -71,8 +72,8 @@ pub fn read_expr(
     }
 }
 
-/// The expression that a value spells, or the first fault, in a box: one word, so that a function that reads others after it keeps little on its
-/// stack. The arguments are those of `read_expr`.
+/// The expression that the value spells at the place `at` and at `depth`, as `read_expr` reads it, in a box or the first fault: a box is one word, so
+/// that a function that reads other expressions after it keeps little on its stack.
 #[cycle(expr)]
 pub fn read_boxed(
     alloc: Global,

@@ -1,4 +1,5 @@
-//! Expressions as members of objects. `value` is the object, `at` its place, `name` the member's name; parties have to be those of the topology.
+//! Expressions as members of objects. `value` is the object, `at` its place, `name` the member's name; parties have to be those of the topology, and
+//! another name is Unknown. `alloc` gives the memory for what is read; where memory is wanting, also for the place in a fault, the fault is Memory.
 ghost use Rattle.std.specs.Prelude.{◌≡◌};
 ghost use Rattle.serde_json.specs.View.{view, items_view};
 ghost use Rattle.serde_json.specs.Find.{get};

@@ -1,4 +1,5 @@
-//! Values as expressions of a package.
+//! Values as expressions of a package. A party for which nobody of the topology confirms is Unknown. `alloc` gives the memory for what is read; where
+//! memory is wanting, also for the place in a fault, the fault is Memory.
 ghost use Rattle.std.specs.Prelude.{◌≡◌};
 ghost use Rattle.serde_json.specs.Number.{num_of};
 ghost use Rattle.serde_json.specs.View.{view, number_view};

@@ -1,4 +1,4 @@
-//! Operators of expressions.
+//! Operators of expressions. Where memory is wanting, also for the place in a fault, the fault is Memory.
 ghost use Rattle.std.specs.Prelude.{◌≡◌};
 ghost use Rattle.serde_json.specs.View.{view};
 ghost use Rattle.ledger_terms.specs.Answers.{Follows};
@@ -37,7 +37,7 @@ fn operator_named(word: &str) -> Option<Operator>
 }
 
 impl Operator {
-    /// Whether so many items may stand behind the operator in a list that is an expression: its number of operands, or for `set` any up to 16.
+    /// Whether a list that is an expression may have so many items behind the operator: just its number of operands, or for `set` any number up to 16.
     pub fn takes(self, operands: usize) -> bool
         ensures { result ≡ takes self operands }
     {

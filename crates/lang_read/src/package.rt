@@ -1,4 +1,4 @@
-//! Packages.
+//! Packages. `alloc` gives the memory for what is read; where memory is wanting, also for the place in a fault, the fault is Memory.
 ghost use Rattle.std.specs.Prelude.{◌≡◌, ◌≤◌, ◌+◌, length, IfOk};
 ghost use Rattle.serde_json.specs.View.{view};
 ghost use Rattle.ledger_terms.specs.Answers.{Follows};
@@ -17,9 +17,8 @@ fn has_package_members(value: &Value) -> bool
     fits(value, &["name", "templates"], &[])
 }
 
-/// The package that a JSON value spells, or its first fault. `at` is the place of the value, from which the places of faults
-/// go on. Parties have to be those of the topology. `before` is the number of templates in the packages before it, which count to
-/// the limit of templates in all.
+/// The package that the value `json` at the place `at` spells, or its first fault, Unknown where it names a party for which nobody of the topology
+/// confirms. `before` is the number of templates in the packages before it, which count to the limit of 64 templates in all.
 #[tactic(auto, unfolding(crate::specs::Packages::package_of))]
 pub fn read_package(
     alloc: Global,

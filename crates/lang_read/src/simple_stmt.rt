@@ -1,4 +1,5 @@
-//! Statements without statements inside.
+//! Statements without statements inside. A party for which nobody of the topology confirms is Unknown. `alloc` gives the memory for what is read; where
+//! memory is wanting, also for the place in a fault, the fault is Memory.
 ghost use Rattle.std.specs.Prelude.{◌≡◌};
 ghost use Rattle.serde_json.specs.View.{view};
 ghost use Rattle.ledger_terms.specs.StmtForms.{stmt_form};
@@ -125,8 +126,8 @@ fn read_fetch(
     })
 }
 
-/// The statement, other than a `when`, that the value at the place `at` spells, an object whose one member says which it is; or the first fault,
-/// Shape where it is none of these. Parties have to be those of the topology.
+/// The statement, other than a `when`, that the value at the place `at` spells, an object with one member, `let`, `assert`, `create`, `exercise` or
+/// `fetch`; or the first fault, Shape where it is none of these. Parties have to be those of the topology.
 #[tactic(auto, unfolding(crate::specs::Stmts::simple_of))]
 pub fn read_simple(
     alloc: Global,

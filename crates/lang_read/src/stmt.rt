@@ -1,4 +1,5 @@
-//! Statements of a choice's body.
+//! Statements of a choice's body. A party for which nobody of the topology confirms is Unknown. `alloc` gives the memory for what is read; where memory
+//! is wanting, also for the place in a fault, the fault is Memory.
 ghost use Rattle.std.specs.Prelude.{◌≡◌, ◌≤◌, IfOk};
 ghost use Rattle.serde_json.specs.View.{view, items_view};
 ghost use Rattle.serde_json.specs.Find.{get};
@@ -132,8 +133,8 @@ fn read_stmts(
     Ok((stmts, count))
 }
 
-/// The statements in the member `body` of the choice that is `value` at the place `at`, none where that member is absent, or the first fault.
-/// Parties have to be those of the topology.
+/// The statements in the member `body` of the choice that is `value` at the place `at`, none where that member is absent, or the first fault, Limit
+/// where they are more than 64 with those below a `when`. Parties have to be those of the topology.
 #[tactic(auto, unfolding(crate::specs::Stmts::body_in))]
 pub fn body_in(
     alloc: Global,

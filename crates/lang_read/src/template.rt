@@ -1,4 +1,5 @@
-//! Templates of a package.
+//! Templates of a package. A party for which nobody of the topology confirms is Unknown. `alloc` gives the memory for what is read; where memory is
+//! wanting, also for the place in a fault, the fault is Memory.
 ghost use Rattle.std.specs.Prelude.{◌≡◌, ◌≤◌, ◌+◌, length, IfOk};
 ghost use Rattle.serde_json.specs.View.{view};
 ghost use Rattle.ledger_terms.specs.Answers.{Follows, FollowsAs};

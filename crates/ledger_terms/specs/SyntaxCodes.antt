@@ -60,7 +60,7 @@ abbrev mutual
   exprs_tokens (MoreExprs e es) after = expr_tokens e (exprs_tokens es (MoreExprsToken ∷ after))
 
 -- The lists of expressions that tokens build, read from the left. The second argument is the stack of the expressions that were read so far, and the
--- third that of the lists, both the last one first. Where an operator's operands lack, the stack of lists as it is.
+-- third that of the lists, both the last one first. Where an operator's operands lack, reading ends, with the lists as they are then.
 abbrev pub built : List ExprToken → List ExprForm → List ExprForms → List ExprForms
 built [] s t = t
 built (LiteralToken v ∷ after) s t = built after (Literal v ∷ s) t
@@ -123,7 +123,7 @@ mutual
   built-exprs NoExprs after s t = refl
   built-exprs (MoreExprs e es) after s t = built-expr e _ s t ∙ built-exprs es (MoreExprsToken ∷ after) (e ∷ s) t
 
--- the top of a stack of lists of expressions, and the empty list where the stack is empty
+-- the top of a stack of lists of expressions, by which `coded_exprs` takes the list that `built` made; the empty list where the stack is empty
 abbrev pub first_or_none : List ExprForms → ExprForms
 first_or_none [] = NoExprs
 first_or_none (es ∷ t) = es
@@ -175,7 +175,7 @@ abbrev mutual
   stmts_tokens (MoreStmts s ss) after = stmt_tokens s (stmts_tokens ss (MoreStmtsToken ∷ after))
 
 -- The lists of statements that tokens build, read from the left. The second argument is the stack of the statements that were read so far, and the
--- third that of the lists, both the last one first. Where a token's parts lack, the stack of lists as it is.
+-- third that of the lists, both the last one first. Where a token's parts lack, reading ends, with the lists as they are then.
 abbrev pub built_stmts : List StmtToken → List StmtForm → List StmtForms → List StmtForms
 built_stmts [] s t = t
 built_stmts (BindToken x e ∷ after) s t = built_stmts after (Bind x e ∷ s) t
@@ -208,7 +208,7 @@ mutual
   built_stmts-stmts (MoreStmts a more) after s t =
       built_stmts-stmt a _ s t ∙ built_stmts-stmts more (MoreStmtsToken ∷ after) (a ∷ s) t
 
--- the top of a stack of lists of statements, and the empty list where the stack is empty
+-- the top of a stack of lists of statements, by which `coded_stmts` takes the list that `built_stmts` made; the empty list where the stack is empty
 abbrev pub first_stmts : List StmtForms → StmtForms
 first_stmts [] = NoStmts
 first_stmts (a ∷ t) = a

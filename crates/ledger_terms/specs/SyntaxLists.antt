@@ -2,7 +2,7 @@
 use Rattle.std.specs.Prelude.{ℕ, suc}
 use Rattle.ledger_terms.specs.Syntax.{ExprForm, ExprForms, NoExprs, MoreExprs, StmtForm, StmtForms, NoStmts, MoreStmts}
 
--- how many expressions a list has
+-- how many expressions a list has; a rule of proofs alone has it, that plain data has as many as the code's list
 abbrev pub exprs_count : ExprForms → ℕ
 exprs_count NoExprs = 0
 exprs_count (MoreExprs e es) = suc (exprs_count es)
@@ -16,7 +16,7 @@ exprs_join (MoreExprs first others) more = MoreExprs first (exprs_join others mo
 abbrev pub one_expr : ExprForm → ExprForms
 one_expr e = MoreExprs e NoExprs
 
--- how many statements a list has, those inside a When not counted
+-- how many statements a list has, those inside a When not counted; a rule of proofs alone has it, that plain data has as many as the code's list
 abbrev pub stmts_count : StmtForms → ℕ
 stmts_count NoStmts = 0
 stmts_count (MoreStmts s ss) = suc (stmts_count ss)

@@ -110,8 +110,8 @@ impl PartySet {
         Ok(())
     }
 
-    /// Puts the party at the end and says true, where it stands above all others by its bytes; else the set stays as it is, and it says false. What
-    /// reads a set's bytes tells by it whether they rise.
+    /// Puts the party at the end and says true, where it stands above all others by its bytes; else the set stays as it is, and it says false. Readers
+    /// of spellings tell by it whether a set's names rise.
     pub fn push_above(&mut self, party: Name) -> Result<bool, AllocError>
         ensures put { IfOk result (λ above. (above ≡ stands_above self.old party) × (self.new ≡ cond above (self.old ++ party ∷ []) self.old)) }
         ensures err { OnErr result (self.new ≡ self.old) }

@@ -32,7 +32,7 @@ impl<T> RoomyList<T> {
         }
     }
 
-    /// The list with a list's items, which are moved and not copied.
+    /// The list with a list's items, which are moved and not copied. Its room is what the memory of these has left, of which the contract says nothing.
     pub fn of(list: ListOf<T>) -> RoomyList<T>
         ensures { result.items ≡ list }
     {

@@ -6,8 +6,8 @@ use Rattle.script_read.specs.declared.script.Script.{Script}
 use Rattle.load_gen.specs.Scripts.{hosts, params, packages}
 use Rattle.load_gen.specs.Submissions.{debts, transfers}
 
--- A round with these submissions, in which nobody restarts or is paused, no verdict is held back, the time isn't moved, and no raw request is handed
--- in.
+-- A round with these submissions, as a generated script has two: nobody restarts or is paused in it, no verdict is held back, the time isn't moved, and
+-- no raw request is handed in.
 abbrev pub round_of : List Submission → Round
 round_of submits = record { advance = 0; paused = []; hold_verdicts = false; submits = submits; raws = []; restarts = [] }
 

@@ -40,11 +40,12 @@ choice_with name consuming param controller body =
       result = Literal UnitValue;
     }
 
--- a body of one statement
+-- a body of one statement, that one
 abbrev pub only : StmtForm → StmtForms
 only stmt = MoreStmts stmt NoStmts
 
--- The statement that creates a debt of the same issuer, with this owner and this amount.
+-- The statement that creates a debt of the same issuer, with this owner and this amount, in that order. It binds the new id to a name x that nothing
+-- uses.
 abbrev pub new_iou : ExprForm → ExprForm → StmtForm
 new_iou owner amount = Create (codes "x") iou_template_name (MoreExprs (Var (codes "this.issuer")) (MoreExprs owner (MoreExprs amount NoExprs)))
 
@@ -86,12 +87,13 @@ again =
 abbrev pub down_body : StmtForms
 down_body = only (When (is_positive (codes "arg.n")) (only again) NoStmts)
 
--- The choice Down, which calls itself as often as its number says.
+-- The choice Down, by which the owner of a Loop has it call itself, on the same contract, as often as its number says. No generated submission
+-- exercises it; it stands here since the package is the Iou of the tests, which try recursion by it.
 abbrev pub down_form : ChoiceForm
 down_form =
     choice_with (codes "Down") false (declared (codes "n") IntKind) (codes "this.owner") down_body
 
--- the template of a contract whose choice calls itself
+-- the template of a contract whose one choice, Down, calls itself; its owner signs it, and nobody observes it
 abbrev pub loop_form : TemplateForm
 loop_form =
     record {
@@ -103,6 +105,6 @@ loop_form =
       choices = down_form ∷ [];
     }
 
--- the package Iou, of these two templates
+-- the package Iou, of two templates: that of a debt, and that of a contract whose choice calls itself
 abbrev pub iou_package : PackageForm
 iou_package = record { name = codes "Iou"; templates = iou_form ∷ loop_form ∷ [] }

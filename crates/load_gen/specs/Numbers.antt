@@ -31,7 +31,7 @@ participant_at place = numbered (codes "G") (place + 1)
 abbrev pub party_at : ℕ → List ℕ
 party_at place = numbered (codes "A") (place + 1)
 
--- whether the text is a single letter, so that with a number behind it it is a name
+-- whether the text is a single letter, so that with a number behind it it is a name; callers of `numbered` in `src/names.rt` have to show it
 abbrev pub is_one_letter : List ℕ → Bool
 is_one_letter [] = false
 is_one_letter (letter ∷ []) = is_letter letter

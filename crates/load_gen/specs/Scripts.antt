@@ -9,7 +9,7 @@ use Rattle.load_gen.specs.Iou.{iou_package}
 use Rattle.load_gen.specs.Numbers.{participant_at, party_at}
 use Rattle.load_gen.specs.declared.topology.TheConstants.{PARTICIPANTS, RESPONSE_TIMEOUT, REACTION_TIMEOUT, SKEW}
 
--- the names of all packages of a generated script, which each participant has vetted
+-- the names of all packages of a generated script, which each of its participants has vetted
 abbrev pub vetted_packages : List (List ℕ)
 vetted_packages = codes "Note" ∷ codes "Iou" ∷ []
 
@@ -21,7 +21,7 @@ host_at place = record { name = participant_at place; parties = party_at place �
 abbrev pub hosts : List Host
 hosts = map host_at (range_with_len 0 PARTICIPANTS)
 
--- the times of a generated script, those of a script that gives none: 30 seconds for responses, 30 for verdicts, and a skew of 60
+-- the times of a generated script, the defaults of a script that says none: 30 seconds for responses, 30 for verdicts, and 60 of skew
 abbrev pub params : Params
 params = record { response_timeout = RESPONSE_TIMEOUT; reaction_timeout = REACTION_TIMEOUT; skew = SKEW }
 

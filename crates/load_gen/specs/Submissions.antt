@@ -18,7 +18,8 @@ use Rattle.load_gen.specs.declared.topology.TheConstants.{PARTICIPANTS}
 abbrev pub in_turn : ℕ → ℕ → ℕ
 in_turn i step = (i + step) % PARTICIPANTS
 
--- The submission of one command by the participant `place`, as its party. `name` is the command's id.
+-- The submission of one command by the participant `place`, which acts as the party that it confirms for. `name` is the id of the command; the ledger
+-- time is left out, so it is that of the round.
 abbrev pub submission_of : ℕ → List ℕ → Command → Submission
 submission_of place name command =
     record {
@@ -33,17 +34,17 @@ submission_of place name command =
 abbrev pub party_arg : ℕ → Arg
 party_arg place = Plain (Party (party_at place))
 
--- The submission that creates debt i, whose amount the number x of the generator gives.
+-- The submission that creates debt i, whose amount the number x of the generator gives; the id of its command is `c` with i behind it.
 abbrev pub debt_by : ℕ → ℕ → Submission
 debt_by i x =
     submission_of (in_turn i 0) (numbered (codes "c") i)
     (Create iou_template_name (party_arg (in_turn i 0) ∷ party_arg (in_turn i 1) ∷ Plain (Int (pos (amount_by x))) ∷ []))
 
--- the label of the contract of debt i, by which its transfer names it
+-- the label of the contract of debt i, by which its transfer names it: its creator's name, the creation's command and the first root
 abbrev pub debt_label : ℕ → ContractRef
 debt_label i = Label (record { participant = participant_at (in_turn i 0); command = numbered (codes "c") i; path = 0 ∷ [] })
 
--- the submission by which the owner of debt i transfers it to the next participant
+-- the submission by which the owner of debt i transfers it to the next participant; the id of its command is `t` with i behind it
 abbrev pub transfer_of : ℕ → Submission
 transfer_of i =
     submission_of (in_turn i 1) (numbered (codes "t") i) (Exercise iou_template_name (debt_label i) transfer_name (party_arg (in_turn i 2) ∷ []))

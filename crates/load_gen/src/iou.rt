@@ -1,4 +1,4 @@
-//! The package Iou.
+//! The package Iou. `alloc` gives the memory, and the only error is want of it.
 ghost use Rattle.std.specs.Prelude.{◌≡◌, ◌∷◌, [], IfOk};
 ghost use Rattle.load_gen.specs.Iou.{iou_fields, iou_form, loop_form, iou_package, transfer_form, grow_form};
 

@@ -6,8 +6,8 @@ ghost use Rattle.load_gen.specs.Generated.{generated};
 ghost use Rattle.load_gen.specs.declared.numbers.TheConstants.{AMOUNTS, INCREMENT, MULTIPLIER};
 ghost use Rattle.load_gen.specs.declared.topology.TheConstants.{PARTICIPANTS, REACTION_TIMEOUT, RESPONSE_TIMEOUT, SKEW};
 
-/// A generated script is accepted as one that was read is (`IsAccepted`), whatever its seed, where its debts are at most half of the submissions that a
-/// script may have, since each debt is two. So many are what the command line lets through.
+/// A generated script is accepted as one that was read is (`IsAccepted`), whatever its seed, where twice its count of debts is at most the number of
+/// submissions that a script may have, 2,048: each debt is created and transferred. The command line lets no more than 1,024 debts through.
 pub fn generated_scripts_are_accepted()
     ensures { (seed count : ℕ) → 2 * count ≤ MOST_SUBMISSIONS → IsAccepted (generated seed count) }
 {}

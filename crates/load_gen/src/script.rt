@@ -1,4 +1,4 @@
-//! Generated scripts.
+//! Generated scripts. `alloc` gives the memory, and the only error is want of it.
 ghost use Rattle.std.specs.Prelude.{◌≡◌, IfOk};
 ghost use Rattle.load_gen.specs.Generated.{round_of, generated};
 

@@ -1,4 +1,4 @@
-//! What is submitted.
+//! What is submitted. `alloc` gives the memory, and the only error is want of it.
 ghost use Rattle.std.specs.Prelude.{◌≡◌, ◌<◌, ◌+◌, IfOk};
 ghost use Rattle.load_gen.specs.Submissions.{in_turn, submission_of, party_arg, debt_by, debt_label, transfer_of, debts, transfers};
 
@@ -99,7 +99,8 @@ fn transfer_of(alloc: Global, turn: u32) -> Result<Submission, AllocError>
     )
 }
 
-/// The submissions that create `count` debts, in order, the amount of each by the next number behind `seed`.
+/// The submissions that create `count` debts, in order. The amount of the first is made of the generator's number after `seed`, and that of each other
+/// of the number after the one before.
 pub fn generated_debts(alloc: Global, count: u32, seed: u64) -> Result<SubmissionList, AllocError>
     ensures { IfOk result (λ s. s ≡ debts seed count) }
 {

@@ -1,4 +1,4 @@
-//! The participants.
+//! The participants. `alloc` gives the memory, and the only error is want of it.
 ghost use Rattle.std.specs.Prelude.{◌≡◌, codes, ◌∷◌, [], IfOk};
 ghost use Rattle.load_gen.specs.Scripts.{vetted_packages, host_at, hosts, params};
 
@@ -50,7 +50,8 @@ fn hosts(alloc: Global) -> Result<HostList, AllocError>
     Ok(hosts)
 }
 
-/// The topology of a generated script: four participants, each with a party and all packages vetted, and the times of a script that gives none.
+/// The topology of a generated script: four participants, each of which confirms for one party and has vetted all packages, and the times that a script
+/// has that gives none.
 pub fn generated_topology(alloc: Global) -> Result<Topology, AllocError>
     ensures { IfOk result (λ t. t ≡ record { hosts = hosts; params = params }) }
 {

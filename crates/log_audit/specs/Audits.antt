@@ -16,8 +16,8 @@ use Rattle.log_audit.specs.declared.answer.Audit.TheVariants.{Yes, No, Bad}
 abbrev pub Dumps : {S : Type 0} → (reads : List ℕ → Option S) → (most : S → ℕ) → List ℕ → S → List Entry → Type 0
 Dumps reads most bytes script log = dump_in reads most bytes ≡ Ok (script, log)
 
--- What the audit says of the bytes is so: they are a dump of a proper log with so many entries and approved requests; or a dump of a log that fails
--- at that place, for that reason; or no dump, and what can't be read begins at the byte `at`.
+-- What the audit says of the bytes is so: they are a dump of a proper log with so many entries and approved requests (Yes); or a dump of a log that
+-- fails at that place, by that case (No); or no dump, and what can't be read begins at the byte `at`, counted from 0 (Bad).
 abbrev pub IsAudit : {S : Type 0} → (reads : List ℕ → Option S) → (most : S → ℕ) → (standard : S → Standard) → (bytes : List ℕ) → Audit → Type 0
 IsAudit {S} reads most standard bytes (Yes entries approved) =
     (script : S) × (log : List Entry) × Dumps reads most bytes script log × IsProper (standard script) log
@@ -38,7 +38,7 @@ pub record SpellsProperLog {S : Type 0} (reads : List ℕ → Option S) (most : 
   pub in_range : IsLog (most script) log
   pub proper : IsProper (standard script) log
 
--- The audit says yes.
+-- The audit says yes; by a clause of `audit` it does just where `SpellsProperLog` holds of the bytes.
 abbrev pub IsYes : Audit → Type 0
 IsYes (Yes entries approved) = Unit {0}
 IsYes (No place why) = ⊥

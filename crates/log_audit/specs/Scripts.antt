@@ -17,7 +17,7 @@ unless_fault (Err fault) = None
 unfoldable pub script_of : List ℕ → Option Script
 script_of bytes = unless_fault (script_in bytes)
 
--- The greatest index of a participant of the script. The first one has the index 0.
+-- The greatest index of a participant of the script, counted from 0, up to which a dump's log may name participants; 0 where there is none.
 abbrev pub most_of : Script → ℕ
 most_of script = length (script.topology).hosts - 1
 

@@ -49,8 +49,8 @@ fn most_of(script: &Script) -> u8
     (script.topology.hosts.len() - 1) as u8
 }
 
-/// The script and the log that the bytes are a dump of. A fault says how many bytes are left where the first field begins that can't be read: a
-/// script with a fault is such a field, and so are bytes behind the log.
+/// The script and the log that the bytes are a dump of. An Err is want of memory, or says how many bytes are left where the first field begins that
+/// can't be read: a script with a fault is such a field, and so are bytes behind the log.
 #[tactic(auto, unfolding(log_dump::specs::Dumps::dump_in))]
 pub fn read_dump(alloc: Global, bytes: &[u8]) -> Result<Dump, ReaderFault>
     ensures read { Gives (λ d. (d.script, d.log)) result (dump_in script_of most_of bytes.now) }

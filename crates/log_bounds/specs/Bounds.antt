@@ -10,7 +10,8 @@ use Rattle.canton_model.specs.declared.entry.Entry.{Entry}
 abbrev pub LEAST_ACTION_BYTES : ℕ
 LEAST_ACTION_BYTES = 32
 
--- How many bytes a view at least takes in what the mediator is told: its tag, a hash with its tag for each of two leaves, and a count.
+-- How many bytes a view at least takes in what the mediator is told: its tag, a hash with its tag for each of two leaves, and a count. So bytes of a
+-- bounded length tell of few views.
 abbrev pub LEAST_VIEW_BYTES : ℕ
 LEAST_VIEW_BYTES = 69
 

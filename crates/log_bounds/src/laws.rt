@@ -58,13 +58,13 @@ pub fn framed_paths_are_spellable()
         → AreSpellablePaths (paths_confirmed (framed_reading topology packages) p request) }
 {}
 
-/// A framed request asks each participant at most once, and has at most one envelope for each.
+/// A framed request asks at most as many participants as the topology has, and has at most as many envelopes.
 pub fn framed_requests_are_small()
     ensures confirming { (topology : Topology) (request : Request) → IsFramed topology request → length request.confirming ≤ length topology.hosts }
     ensures envelopes { (topology : Topology) (request : Request) → IsFramed topology request → length request.envelopes ≤ length topology.hosts }
 {}
 
-/// What a framed request shows a participant are at most 131,072 actions. The actions that any request shows name parties of the topology
+/// What a framed request shows a participant are at most 131,072 actions. The actions that a request shows, framed or not, name parties of the topology
 /// alone.
 pub fn shown_actions_are_few()
     ensures few { (topology : Topology) (packages : Packages) (request : Request) (p : ParticipantId) (shown : Shown)

@@ -12,7 +12,8 @@ ghost use Rattle.log_dump.specs.Reading.{block_at, entry_at, log_at};
 ghost use Rattle.log_dump.specs.Spellable.{IsSpellableEntry, IsSpellableLog};
 ghost use Rattle.log_dump.specs.Spelling.{spell_block, spell_entry, spell_log};
 
-/// Each block of bytes, each entry and each log in range has one spelling: the bytes that are read as it are its spelling, which is read as it.
+/// Each block of bytes, each entry and each log in range has one spelling: the bytes that are read as it are its spelling, and its spelling is read as
+/// it.
 pub fn one_spelling()
     ensures blocks { HasOneSpelling spell_block IsBlock block_at }
     ensures entries { (most : ℕ) → HasOneSpelling spell_entry (IsEntry most) (entry_at most) }

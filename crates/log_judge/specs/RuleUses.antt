@@ -43,7 +43,7 @@ is_wrong_use contracts (Some contract) = has_used contracts contract
 abbrev pub is_wrong_by : Request → Option Transaction → Used → Bool
 is_wrong_by request whole one = is_caused_by (rule_of one.rule) request && is_wrong_use one.contracts (exercised_for (rule_of one.rule) whole)
 
--- A rule with one more exercised contract, unless there is none (None) or it is there already.
+-- A rule with one more exercised contract at the end of its list; as it was where there is none (None) or the contract is in the list already.
 abbrev pub with_contract : Used → Option Hash → Used
 with_contract one None = one
 with_contract one (Some contract) =

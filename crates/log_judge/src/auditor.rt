@@ -45,7 +45,8 @@ fn is_unframed(message: &Message, outline: Option<&Outline>) -> bool
 }
 
 impl<P: Participants> Auditor<P> {
-    /// An auditor that has read nothing, with participants that have read nothing, over this topology and these rules.
+    /// An auditor that has read nothing, with the times of this topology and these rules, whose requests have exercised nothing. `participants` have
+    /// read nothing, and have the topology's times. An Err is want of memory.
     pub fn new(
         alloc: Global,
         topology: &Topology,

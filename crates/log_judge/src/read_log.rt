@@ -115,7 +115,8 @@ impl ReadLog {
         decision < time
     }
 
-    /// Whether an entry is a response or a verdict after the decision time of its request. Of a request and a Tick it is false.
+    /// Whether an entry is a response or a verdict with a time after the decision time of its request, where a place without an entry counts as one of
+    /// the time 0. Of a request and a Tick it is false.
     pub fn is_too_late(&self, params: &Params, entry: &Entry) -> bool
         ensures { Decides result (IsTooLate params.now self.now.list entry.now.message entry.now.time) }
     {

@@ -8,7 +8,8 @@ use Rattle.canton_model.specs.declared.entry.Entry.{Entry}
 abbrev pub RowName : Type 0
 RowName = TableId
 
--- a name that no history has
+-- A name that no history has: a history's table has one word, and this none. `Brand` has it as its `history`; a call that is generic in the name puts
+-- the name of its own log in its place.
 abbrev pub no_row : RowName
 no_row = record { words = 0; slots = 0; views_name = 0; atom = 0; block = 0; offset = 0; slot_names = [] }
 

@@ -36,12 +36,13 @@ copied v = reader v.list
 abbrev pub joined : View → View → View
 joined v w = record { writes = v.writes; list = if v.writes then v.list else longer v.list w.list; joined = v.list ∷ w.list ∷ v.joined }
 
--- The writer's list grows by these entries. The arguments behind them are the step, what the seat has before it, the word that was found, and what
--- the seat has after it.
+-- The writer's list grows by these entries, and no joined lists are left. The arguments behind the entries are the step, what the seat has before it
+-- (what it knows, and the slots that it has taken, which stay), the word that was found, and what it has after it. Step and word don't matter.
 abbrev pub Appends : List Entry → Step (Unit {0}) → Me (Unit {0}) View → ℕ → Me (Unit {0}) View → Type 0
 Appends entries s v found w = w ≡ (writer (v.0.list ++ entries), v.1)
 
--- A seat learns that each list that was joined into it begins its own, which stays as it is. The arguments are the step, what the seat has before it,
--- the word that was found, and what the seat has after it.
+-- A seat learns that each list joined into it begins its own list, which stays; the joined lists are then forgotten. The arguments are the step, what
+-- the seat has before it (what it knows, and the slots that it has taken, which stay), the word found, and what it has after it. Step and word don't
+-- matter.
 abbrev pub Learns : Step (Unit {0}) → Me (Unit {0}) View → ℕ → Me (Unit {0}) View → Type 0
 Learns s v found w = (w ≡ (record { writes = v.0.writes; list = v.0.list; joined = [] }, v.1)) × AllBegin v.0.joined v.0.list

@@ -13,7 +13,7 @@ ghost use Rattle.mediator.specs.KeptCases.{KeptMediator, Keeps, Knows, known_dec
 ghost use Rattle.mediator.specs.Order.{HasGiven, IsFirstDue, NothingIsDue};
 
 /// What a mediator knows of the log that it has read: at first nothing, an entry more after each read, and the same after a verdict is taken or given
-/// back. Each verdict that it takes, and each decision that it tells, is the one that the log gives (`scan`).
+/// back. Over a genuine log each verdict that it takes, and its decision on each request on which no verdict stands in the log, is the one of `scan`.
 pub fn mediator_knows()
     ensures new { (m : Machine) (kept : KeptMediator) → kept.params ≡ m.params → Keeps kept new_mediator → Knows m [] kept }
     ensures read { (m : Machine) (log : List EntryValue) (before after : KeptMediator) (entry : EntryValue)
@@ -40,9 +40,9 @@ pub fn mediator_knows()
         → known_decision k kept.cases ≡ scan m.params log k }
 {}
 
-/// What a mediator takes, by the log that it has read and the places of the requests whose verdicts count as taken: the decision on
-/// the first request that is due, and none only where nothing is. A verdict counts as taken until it is given back. So each is taken
-/// once, and over one log they are taken by rising places.
+/// What a mediator takes, by the genuine log that it has read and the places of the requests whose verdicts count as taken: the decision on the first
+/// request that is due, and none only where nothing is. A verdict counts as taken until it is given back. So, unless it is, each is taken once, and
+/// over one log they are taken by rising places.
 pub fn verdicts_are_taken_in_order()
     ensures new { (m : Machine) (kept : KeptMediator) → kept.params ≡ m.params → Keeps kept new_mediator → HasGiven m [] [] kept }
     ensures read { (m : Machine) (log : List EntryValue) (given : List ℕ) (before after : KeptMediator) (entry : EntryValue)

@@ -1,6 +1,7 @@
 -- The readings of paths, responses and verdicts. Participants are numbers from 0 to `most`. A reading takes bytes and gives a value at their front with
 -- the bytes behind it, or Err with how many bytes are left at the first field that can't be read. Of its words `both_at` reads two values one after the
 -- other, `seen_at f` what f makes of a value, and `counted_at` a count and as many items, each of which may stand behind those before (`any_item` always).
+-- What has several parts is read as nested pairs, of a type `..Parts`, and a function `.._of` makes the value of them.
 use Rattle.std.specs.Prelude.{ℕ, zero, suc, Bool, true, List, [], ◌∷◌, Result, Ok, Err, length, nat_lt}
 use Rattle.std.specs.Int.{w16, w64}
 use Rattle.ledger_terms.specs.declared.limits.TheConstants.{MOST_ACTION_DEPTH}
@@ -104,7 +105,8 @@ response_of parts = record { from = parts.0.0; request = parts.0.1; verdicts = p
 unfoldable pub response_at : (most : ℕ) → Reading Response
 response_at most = seen_at response_of (both_at (both_at (small_count_at most) (number_at w64)) view_verdicts_at)
 
--- whether participant p is greater than the last of the participants in the list, which ascend; true where the list is empty
+-- whether participant p is greater than the last of the participants in the list, which ascend; true where the list is empty; by it `participants_at`
+-- admits the next one
 abbrev pub is_past : List ℕ → ℕ → Bool
 is_past [] p = true
 is_past (q ∷ []) p = nat_lt q p

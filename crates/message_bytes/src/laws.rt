@@ -6,14 +6,15 @@ ghost use Rattle.message_bytes.specs.Reading.{path_at, response_at, verdict_at};
 ghost use Rattle.message_bytes.specs.Spellable.{IsSpellablePath, IsSpellableResponse, IsSpellableVerdict};
 ghost use Rattle.message_bytes.specs.Spelling.{spell_path, spell_response, spell_verdict};
 
-/// No spelling of a path, a response or a verdict in range begins that of another one, so bytes that begin with such a spelling begin with only one.
+/// No spelling of a path, a response or a verdict in range begins that of another one of its kind. So bytes that begin with such a spelling begin with
+/// that of no other of the kind.
 pub fn none_begins_another()
     ensures paths { NoneBeginsAnother spell_path IsPath }
     ensures responses { (most : ℕ) → NoneBeginsAnother spell_response (IsResponse most) }
     ensures verdicts { (most : ℕ) → NoneBeginsAnother spell_verdict (IsVerdict most) }
 {}
 
-/// Each path, response and verdict in range has one spelling: bytes that are read as it are its spelling, which is read as it.
+/// Each path, response and verdict in range has one spelling: the bytes that are read as it are its spelling, and its spelling is read as it.
 pub fn one_spelling()
     ensures paths { HasOneSpelling spell_path IsPath path_at }
     ensures responses { (most : ℕ) → HasOneSpelling spell_response (IsResponse most) (response_at most) }

@@ -1,5 +1,6 @@
 //! Reading paths, responses and verdicts from the front of bytes, also where they stand inside another format. A fault Left has how many bytes are
 //! left at the first field that can't be read; the other fault is want of memory. Participants are numbers from 0 to `most`.
+//! After either nothing is said of the bytes that the reader has left.
 ghost use Rattle.std.specs.Prelude.{◌≡◌, []};
 ghost use Rattle.std.specs.Int.{w16};
 ghost use Rattle.wire_form.specs.Formats.{Gives, any_item, items_at, one_more};

@@ -27,7 +27,8 @@ impl Model for FlashNative {
 }
 
 impl FlashNative {
-    /// The native, with the text of Flash in the contract language. It keeps the allocator for its answers.
+    /// The native, with the text of Flash in the contract language, in place of which it is asked. It keeps the allocator for its answers. An Err is
+    /// want of memory.
     pub fn new(alloc: Global) -> Result<FlashNative, AllocError> {
         let body = flash_choice(alloc)?;
         Ok(FlashNative { alloc, body })

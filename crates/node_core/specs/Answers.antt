@@ -65,8 +65,8 @@ answers_of p =
       prepare = prepare_answer p;
     }
 
--- Two values a and b are of one participant, which has read the same: the setup, the start, the items and the flag are the same, and of the places
--- where it owes verdicts both have claimed the same. Base, outbox and unfinished jobs may differ.
+-- Two values a and b are of one participant, which has read the same: setup, start and items are equal, both are paused or neither is, and of the
+-- places where it owes verdicts both have claimed the same. Base, outbox and unfinished jobs may differ.
 pub record AreAlike (a b : Participant) : Type 0 where
   pub topology : a.topology ≡ b.topology
   pub packages : a.packages ≡ b.packages

@@ -16,6 +16,7 @@ abbrev pub base_in : Option Participant → ℕ
 base_in None = 0
 base_in (Some node) = node.base
 
--- The base of each of these nodes, which stand in the order of the topology, and 0 for a participant that isn't there.
+-- The base of each of these nodes, which stand in the order of the topology, and 0 for a participant that isn't there. `AreBases` always holds of
+-- these.
 abbrev pub bases_of : List Participant → Bases
 bases_of nodes p = base_in (slice_get nodes p)

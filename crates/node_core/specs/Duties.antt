@@ -6,7 +6,8 @@ use Rattle.canton_model.specs.Inbox.{Item}
 use Rattle.world_model.specs.Places.{has_place, without_place}
 use Rattle.world_model.specs.Node.{NodeState, without}
 
--- What contracts see of the duties of a participant: the places where it owes verdicts, its claims and its outbox.
+-- What contracts see of the duties of a participant: the places where it owes verdicts; those that it claimed, and the ones among these whose job isn't
+-- finished; and the responses that wait to be sent.
 pub record Kept : Type 0 where
   pub owed : List ℕ  -- the places of the requests that it owes verdicts to, rising
   pub room : ℕ  -- so many more of these take no memory
@@ -104,7 +105,7 @@ with_waiting kept response =
       outbox = kept.outbox ++ response ∷ [];
     }
 
--- Whether the job of place k, which is at or after `from`, is finished: k is claimed and isn't unfinished.
+-- Whether place k is at or after `from` and its job is finished: k is claimed and isn't unfinished. It is false of each place below `from`.
 abbrev pub is_done : (from : ℕ) → Kept → ℕ → Bool
 is_done from kept k = (nat_le from k && has_place kept.claimed k) && not (has_place kept.unfinished k)
 
@@ -121,7 +122,8 @@ IsPassed decided kept =
 abbrev pub AreToDistinct : List Response → Type 0
 AreToDistinct responses = IsDistinct nat_eq (map (λ (response : Response). response.request) responses)
 
--- Of two responses, each of which may be absent, the one to the earlier place, and the first where both are to one place.
+-- Of two responses, each of which may be absent, the one to the earlier place, and the first where both are to one place. Where only one is there it is
+-- that one, and None where neither is.
 abbrev pub earlier : Option Response → Option Response → Option Response
 earlier None later = later
 earlier (Some a) None = Some a
@@ -131,7 +133,7 @@ earlier (Some a) (Some b) = if nat_le a.request b.request then Some a else Some 
 abbrev pub unless_decided : (decided : ℕ → Bool) → Response → Option Response
 unless_decided decided response = if decided response.request then None else Some response
 
--- The response to the least place among those whose request isn't decided by the test, and None where there is none.
+-- Of these responses, without those whose request is decided by the test, the one to the least place. None where none is left.
 abbrev pub first_waiting : (decided : ℕ → Bool) → List Response → Option Response
 first_waiting decided [] = None
 first_waiting decided (response ∷ rest) = earlier (unless_decided decided response) (first_waiting decided rest)

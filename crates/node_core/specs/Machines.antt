@@ -14,7 +14,8 @@ use Rattle.world_model.specs.Rounds.{Why}
 use Rattle.node_core.specs.Participant.{Participant as NodeValue, reading_of}
 use Rattle.node_core.specs.Preparing.{offered}
 
--- The contracts that participant p offers with these items, if it has forgotten nothing: its active contracts at its cursor.
+-- The contracts that participant p offers with these items, if it has forgotten nothing: its active contracts at its cursor. An `Offered` is a function
+-- of p and its items.
 abbrev pub offered_in : Topology → Packages → Offered
 offered_in topology packages p items = offered (framed_reading topology packages) p items
 

@@ -8,12 +8,13 @@ pub record Waiting : Type 0 where
   pub responses : List Response
   pub capacity : ℕ
 
--- The responses stand in order of place, no two to one place, and their places are at least `low` and below `high`.
+-- The responses stand in order of place, no two to one place, and their places are at least `low` and below `high`. In an outbox that is so the first
+-- undecided one is the one to the least place.
 abbrev pub Rises : (low : ℕ) → List Response → (high : ℕ) → Type 0
 Rises low [] high = low ≤ high
 Rises low (response ∷ rest) high = (low ≤ response.request) × Rises (suc response.request) rest high
 
--- Whether the first response is to the request at place k. It is false where there is none.
+-- Whether the first response is to the request at place k, so that the outbox needn't look further to take it out. It is false where there is none.
 abbrev pub begins_to : (k : ℕ) → List Response → Bool
 begins_to k [] = false
 begins_to k (response ∷ rest) = is_to k response

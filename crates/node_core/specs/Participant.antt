@@ -98,11 +98,11 @@ pub record CanRead (p : Participant) (list : List Entry) : Type 0 where
 abbrev pub owes_there : Participant → ℕ → Bool
 owes_there p k = owes_at (reading_of p) p.me (items_of p) k
 
--- The verdicts that it owes to the request at place k, by what it knew when it had read that entry.
+-- The verdicts that it owes to the request at place k, by what it knew when it had read that entry; an empty list where no request was received there.
 abbrev pub owed_there : Participant → ℕ → List ViewVerdict
 owed_there p k = owed_kept (reading_of p) (params_of p) p.me p.start (items_of p) k
 
--- The response that it owes to the request at place k.
+-- The response that it owes to the request at place k. It has no verdicts where none are owed there.
 abbrev pub response_there : Participant → ℕ → Response
 response_there p k = record { from = p.me; request = k; verdicts = owed_there p k }
 

@@ -33,12 +33,12 @@ items_in topology state = silent_front state.base state.base_time ++ map (item_b
 abbrev pub responses_from : ℕ → List Response → List Response
 responses_from base outbox = filter (λ (response : Response). nat_le base response.request) outbox
 
--- A participant's state with other claimed places.
+-- A participant's state with other claimed places: how `from_state` takes up the places whose job is done.
 abbrev pub with_claimed : NodeState → List ℕ → NodeState
 with_claimed node claimed =
     record { items = node.items; is_paused = node.is_paused; claimed = claimed; unfinished = node.unfinished; outbox = node.outbox }
 
--- A participant's state with another outbox.
+-- A participant's state with another outbox: how `from_state` takes up the responses that wait.
 abbrev pub with_outbox : NodeState → List Response → NodeState
 with_outbox node outbox =
     record { items = node.items; is_paused = node.is_paused; claimed = node.claimed; unfinished = node.unfinished; outbox = outbox }
@@ -56,7 +56,7 @@ begun_with topology packages state node =
       state = node;
     }
 
--- The participant that has nothing unfinished and of which `state` is the state.
+-- The participant that has nothing unfinished and of which `state` is the state, so that contracts can say of a state what they say of a participant.
 abbrev pub owner_of : Topology → Packages → State → Participant
 owner_of topology packages state =
     begun_with topology packages state
@@ -87,7 +87,7 @@ begun_again topology packages state =
       outbox = responses_from state.base state.outbox;
     })
 
--- Whether the job of place k, which is at the base or behind it, was finished and not put back since.
+-- Whether place k is at the base or behind it, and its job was finished and not put back since. It is false of each place below the base.
 abbrev pub is_done_from : (base : ℕ) → NodeState → ℕ → Bool
 is_done_from base node k = (nat_le base k && has_place node.claimed k) && not (has_place node.unfinished k)
 
@@ -108,8 +108,8 @@ pub record IsStateOf (p : Participant) (state : State) : Type 0 where
   pub waiting : (k : ℕ) → p.base ≤ k → waits_at state.outbox k ≡ true → has_place state.done k ≡ true
   pub once : AreToDistinct state.outbox
 
--- These items of a state may be put behind the items `before` one after another: they aren't too many, each is later than those before it, and
--- each may come there.
+-- These items of a state may be put behind the items `before` one after another: with those there are fewer than 2^63, each is later than the one
+-- before it, and each may come where it is put (`IsCame`).
 pub record AreToCome (topology : Topology) (packages : Packages) (me : ParticipantId) (before : List Item) (items : List StateItem) : Type 0 where
   pub few : length before + length items < 2 ^ 63
   pub rises : (k : ℕ) (item : StateItem) → slice_get items k ≡ Some item → last_time (before ++ map (item_by topology) (take k items)) < item.time
@@ -132,9 +132,9 @@ pub record MayBegin (topology : Topology) (packages : Packages) (state : State) 
   pub waiting : (k : ℕ) → state.base ≤ k → waits_at state.outbox k ≡ true → has_place state.done k ≡ true
   pub once : AreToDistinct state.outbox
 
--- A participant may begin again with such a state, and prune it: its inbox is that of a genuine log from the base on, below which every
--- request is decided, verdicts are owed to the requests whose job is done, and from the base on responses wait to these alone, no two to
--- one request. What the responses say is left open.
+-- A participant may begin again with this state, and prune it: its inbox is that of a genuine log from the base on, below which every request is
+-- decided, verdicts are owed to the requests whose job is done, and from the base on responses wait to these alone, no two to one request. What the
+-- responses say is left open.
 pub record IsLawful (topology : Topology) (packages : Packages) (state : State) : Type 0 where
   pub log : List Entry
   pub few : length log < 2 ^ 63

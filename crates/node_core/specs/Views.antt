@@ -36,7 +36,8 @@ view_since base view =
       active = view.active;
     }
 
--- What is reported of a participant: the same as `view`, where it has no base that is told (None), and else that without what stands below the base.
+-- What is reported of a participant, by what is known of it over its whole inbox (`view`): all of that where no base is reported (None), and else that
+-- without the withheld places and the commits below the base, and with the base.
 abbrev pub view_from : (pruned : Option ℕ) → NodeView → NodeView
 view_from None view = view
 view_from (Some base) view = view_since base view
@@ -61,15 +62,15 @@ view_kept reading params p pruned start items =
 abbrev pub view_of : (restarted : Bool) → Participant → NodeView
 view_of restarted p = view_kept (reading_of p) (params_of p) p.me (base_if restarted p.base) p.start (items_of p)
 
--- What is reported of `count` participants from participant p on over a whole log, in order: each without what stands below its base, where
--- `pruned` gives it one.
+-- What is reported of `count` participants from participant p on over a whole log, in order: each without the withheld places and the commits below the
+-- base that `pruned` gives it, if it gives one.
 abbrev pub views_from : Reading → Params → List Entry → (pruned : ParticipantId → Option ℕ) → ParticipantId → (count : ℕ) → List NodeView
 views_from reading params log pruned p zero = []
 views_from reading params log pruned p (suc count) =
     view_from (pruned p) (view_over reading params p (inbox reading p log)) ∷ views_from reading params log pruned (suc p) count
 
--- What is reported of all `hosts` participants over a whole log, in order of the topology: each without what stands below its base, where
--- `pruned` gives it one.
+-- What is reported of all `hosts` participants over a whole log, in order of the topology: each without the withheld places and the commits below the
+-- base that `pruned` gives it, if it gives one.
 abbrev pub views_over : Reading → Params → List Entry → (pruned : ParticipantId → Option ℕ) → (hosts : ℕ) → List NodeView
 views_over reading params log pruned hosts = views_from reading params log pruned 0 hosts
 

@@ -79,7 +79,7 @@ pub fn copy_item(item: &Item) -> Result<Item, AllocError>
     })
 }
 
-/// Puts copies of the responses behind those in `copies`.
+/// Puts copies of the responses behind those in `copies`. After want of memory some may be missing.
 pub fn push_copies(
     alloc: Global,
     responses: &[Response],

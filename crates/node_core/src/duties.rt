@@ -111,7 +111,8 @@ impl Duties {
         self.owed.push_within(place);
     }
 
-    /// The first owed place that is neither decided nor claimed, and none where there is no such place. How far it looked is kept for the next time.
+    /// The first owed place that is neither decided, as `decisions` tells, nor claimed, and none where there is no such place. How far it looked is
+    /// kept for the next time.
     pub fn next_place<D: Decisions>(&mut self, decisions: &D) -> Option<u64>
         requires { IsPassed (D.decided decisions.now) self.old }
         ensures place { result ≡ find (is_free (D.decided decisions.now) self.old.claimed) self.old.owed }

@@ -28,8 +28,8 @@ ghost use Rattle.node_core.specs.States.{IsLawful, IsStateOf, MayBegin, begun_ag
 ghost use Rattle.node_core.specs.Preparing.{offered, offered_by};
 ghost use Rattle.node_core.specs.Views.{base_if, view_from, view_of, view_over};
 
-/// Two values of one participant over one setup, with equal inboxes and flags and equal claims of what they owe, answer alike, whatever else
-/// their logs hold. With equal outboxes they send the same response next, too. Whether a job is unfinished hangs on the unfinished places alone.
+/// Two participants that are alike (`AreAlike`) have equal answers (`Answers`). With equal outboxes they send the same response next, too. Whether a
+/// job is unfinished hangs on the unfinished places alone.
 pub fn nodes_answer_alike()
     ensures answers { (a b : Participant) → AreAlike a b → answers_of a ≡ answers_of b }
     ensures sends { (a b : Participant) → AreAlike a b → a.state.outbox ≡ b.state.outbox → next_response a ≡ next_response b }
@@ -86,8 +86,8 @@ pub fn pruned_participants_answer_alike()
         → AnswersAlike (reading_of p) (params_of p) p.me whole (items_of p) p.base p.start }
 {}
 
-/// What is reported of a participant that restarted is what it would know with the whole inbox, without what stands before its base. Of one that didn't
-/// restart, and has the base 0, it is all of that.
+/// What is reported of a participant that restarted is what it would know with the whole inbox, without the commits and the withheld places below its
+/// base. Of one that didn't restart, and has the base 0, it is all of that.
 pub fn restarted_participants_know_the_rest()
     ensures { (whole : List Item) (p : Participant) (restarted : Bool)
         → IsPrunedTo whole p
@@ -106,9 +106,9 @@ pub fn pruned_participants_are_pruned_again()
         → IsPrunedTo whole (pruned_at b next p) }
 {}
 
-/// A participant that begins again from another one's state has that one's base and items. So it answers as that one does and, of places from the base
-/// on, as one with the whole inbox. Where the other had nothing unfinished, it claims and sends next what the other would with the whole inbox. A
-/// participant that puts back a job which it hasn't finished has the same state as before.
+/// A participant that begins again from another one's state has that one's base and items. So it answers as that one does and, from the base on, as one
+/// with the whole inbox. Where the other has nothing unfinished and owes what waits, it claims and sends next what that one would with the whole inbox.
+/// One that puts back an unfinished job, to which no response waits, has the same state as before.
 pub fn restarted_participants_are_pruned()
     ensures pruned { (whole : List Item) (p : Participant) (state : State)
         → IsPrunedTo whole p

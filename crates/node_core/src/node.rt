@@ -252,9 +252,9 @@ impl<'s> Node<'s> {
         self.duties.sent(request);
     }
 
-    /// The request that a submission of this participant wants over the contracts active at the cursor, or the first fault. `now` is the ledger time,
-    /// in microseconds, of a submission that has none. A choice that `natives` has is asked of them in place of the language. Memory is taken from
-    /// where the submission has its own.
+    /// The request that a submission of this participant wants over the contracts active at the cursor, or the first fault, Paused in a pause. `now` is
+    /// the ledger time, in microseconds, of a submission that has none. `natives` are asked for the choices that they have, in place of the language.
+    /// Memory is taken from where the submission has its own.
     pub fn prepare(
         &self,
         natives: &NativeList,

@@ -13,7 +13,7 @@ use Rattle.contract_store.specs.declared.row.StoreRow.{StoreRow}
 use Rattle.prepare_request.specs.Hosted.{is_among}
 use Rattle.inbox_registry.specs.declared.change.Change.{Change}
 
--- Whether a status is Unknown.
+-- Whether a status is Unknown: nothing that is known created or consumed the contract.
 abbrev pub is_unknown : Status → Bool
 is_unknown Unknown = true
 is_unknown Active = false
@@ -24,7 +24,7 @@ is_unknown Consumed = false
 abbrev pub is_unheard : List StoreRow → (changed : List Hash) → Hash → Bool
 is_unheard rows changed id = is_unknown (status_in rows id) && not (is_among changed id)
 
--- Whether a change is on the contract with this id.
+-- Whether a change is on the contract with this id. By it `added_ids` looks for earlier changes of a contract.
 abbrev pub is_on : Hash → Change → Bool
 is_on id change = bytes_eq id change.known.id
 
@@ -42,15 +42,15 @@ added_if reading p is_new change = if is_new && is_stakeholder_hosted reading p 
 abbrev pub added_by : Reading → ParticipantId → List StoreRow → (changed : List Hash) → Change → List Hash
 added_by reading p rows changed change = added_if reading p (is_new rows changed change) change
 
--- The ids of the new contracts with a stakeholder hosted by participant p that these changes create, in order. `changed` has the ids of the contracts
--- that changes before these are on.
+-- The ids of the new contracts with a stakeholder hosted by participant p that these changes create, in order: what `added_ids` gives. `changed` has
+-- the ids of the contracts that changes before these are on, none at first.
 abbrev pub added_behind : Reading → ParticipantId → List StoreRow → (changed : List Hash) → List Change → List Hash
 added_behind reading p rows changed [] = []
 added_behind reading p rows changed (change ∷ rest) =
     added_by reading p rows changed change ++ added_behind reading p rows (change.known.id ∷ changed) rest
 
--- Whether each contract that one of these changes creates is unknown by the store's rows, and no change before is on it. `changed` has the ids of the
--- contracts that changes before these are on.
+-- Whether each contract that one of these changes creates is unknown by the store's rows, and no change before is on it; true where none creates one.
+-- `changed` has the ids of the contracts that changes before these are on.
 abbrev pub are_new : List StoreRow → (changed : List Hash) → List Change → Bool
 are_new rows changed [] = true
 are_new rows changed (change ∷ rest) =
@@ -60,7 +60,8 @@ are_new rows changed (change ∷ rest) =
 abbrev pub creates_gone : Start → Change → Bool
 creates_gone start change = change.is_create && is_gone start change.known.id
 
--- Each contract that one of these changes creates is new: the rows don't know it, no change before is on it, and it isn't gone.
+-- Each contract that one of these changes creates is new: the rows don't know it, no change before is on it, and it isn't gone. So where no contract
+-- was created twice before (`AreOnce`), none is after these changes.
 pub record AreNew (start : Start) (rows : List StoreRow) (changes : List Change) : Type 0 where
   pub unheard : are_new rows [] changes ≡ true
   pub not_gone : list_any (creates_gone start) changes ≡ false

@@ -25,7 +25,7 @@ TellsOutcomes params items stands = (k : ℕ) → outcome_at (stands.tracking).p
 abbrev pub KeepChanges : List KeptItem → Type 0
 KeepChanges items = (k : ℕ) (request : KeptRequest) → kept_at items k ≡ Some request → (request.changes).items ≡ opened_changes request.offer
 
--- The trees of actions that are opened of a kept request, and no tree where there is no request.
+-- The trees of actions that the envelope of a kept request opens. No tree where there is no request (None), or its envelope isn't complete.
 abbrev pub roots_kept : Option KeptRequest → Forest Act
 roots_kept None = NoRoots
 roots_kept (Some kept) = roots_offered kept.offer
@@ -34,8 +34,8 @@ roots_kept (Some kept) = roots_offered kept.offer
 abbrev pub approved_at : List Item → ℕ → Forest Act
 approved_at items k = if is_approved_in k (moments items) then opened_at items k else NoRoots
 
--- The commit of the item at a place, as a list of one: what is opened of the request there, where it is approved (`approved`) and something is opened
--- of it. Else no commit.
+-- What `into_applied` makes of the item at a place: the commit of what is opened of the request there, as a list of one, where the request is approved
+-- (`approved`) and something is opened of it. Else no commit.
 abbrev pub part_of : Bool → ℕ → KeptContent → List Commit
 part_of approved place (Received kept) = part_if true place (if approved then roots_offered kept.offer else NoRoots)
 part_of approved place (Told verdict) = []

@@ -31,8 +31,8 @@ pub record AreParts (offer : KeptOffer) (facts : List IdFacts) (changes : List C
   pub facts_are : facts ≡ map blank_fact (acts (roots_offered offer))
   pub changes_are : changes ≡ opened_changes offer
 
--- What participant `me` keeps of a request is the request's sender and command, what the notice that was read of it has, and the envelope that
--- is addressed to `me`.
+-- What participant `me` keeps of a request: sender and command of the request, the envelope in it that is addressed to `me`, and of the notice that was
+-- read of it the hash of the mediator's tree, the paths of the views seen and of those confirmed, and what the envelope offers.
 pub record IsKeptOf (me : ParticipantId) (request : Request) (notice : Notice) (kept : KeptRequest) : Type 0 where
   pub sender : kept.sender ≡ request.sender
   pub command : kept.command ≡ request.command
@@ -53,7 +53,8 @@ pub record IsComing (topology : Topology) (packages : Packages) (me : Participan
 abbrev pub first_outcome : List Item → Verdict → Option Kind
 first_outcome items verdict = if is_some (verdict_on verdict.request (moments items)) then None else Some (kind_of (Decided verdict.decision))
 
--- Whether an outcome comes of a verdict. It is false of None, where no request was received, and of the outcomes Undecided and Expired.
+-- Whether a verdict gave this outcome, so that a verdict that comes now isn't the first on its request. It is false of None, where no request was
+-- received, and of the outcomes Undecided and Expired.
 abbrev pub is_told : Option Kind → Bool
 is_told None = false
 is_told (Some kind.Undecided) = false

@@ -36,7 +36,8 @@ abbrev pub AreHosted : Reading → ParticipantId → List Known → Type 0
 AreHosted reading p [] = Unit {0}
 AreHosted reading p (known ∷ rest) = (is_stakeholder_hosted reading p known.instance ≡ true) × AreHosted reading p rest
 
--- Whether a contract was found and has the same instance as the given one. Where none was found (None) it is false.
+-- Whether a contract was found and has the same instance as the given one. Where none was found (None) it is false. Of a contract of which the found
+-- one says the same, `Hosting` needn't work out whether a stakeholder is hosted.
 abbrev pub says_same : Option Known → Known → Bool
 says_same None known = false
 says_same (Some found) known = instance_eq.ghosts.eq found.instance known.instance

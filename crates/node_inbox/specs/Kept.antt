@@ -36,8 +36,8 @@ pub record Came (topology : Topology) (packages : Packages) (me : ParticipantId)
   pub envelope_is : kept.envelope ≡ envelope_to me request.envelopes
   pub offer_is : as_offered kept.offer ≡ offered topology me request
 
--- What is kept of the request at place k, where these items end with it, is right: the request came (`Came`), the changes are those among the authentic
--- opened actions, and there is a fact on the contract of each opened action, which says what the start and the items say of it at that place.
+-- What an item keeps of the request at place k, the last of these items: what came (`Came`), as changes those among the authentic opened actions, and
+-- on the contract of each opened action a fact, which says what the start and the items say of the contract at that place.
 pub record IsKept (topology : Topology) (packages : Packages) (me : ParticipantId) (start : Start) (items : List Item) (k : ℕ)
     (kept : KeptRequest) : Type 0 where
   pub came : Came topology packages me kept
@@ -46,19 +46,19 @@ pub record IsKept (topology : Topology) (packages : Packages) (me : ParticipantI
       (is_locked_in_inbox (framed_reading topology packages) topology.params items k)) kept.facts
   pub all_ids : map (λ (fact : IdFacts). fact.id) kept.facts ≡ opened_ids kept.offer
 
--- What is kept at place k, where these items end with it, is right: a request is kept as `IsKept` asks, and a verdict is on a request that was
--- received before. Where the entry brought nothing there is nothing to ask.
+-- What an item keeps at place k, the last of these items: of a request `IsKept` holds, and a verdict is on a request that was received before. Where
+-- the entry brought nothing this always holds.
 abbrev pub IsKeptContent : Topology → Packages → ParticipantId → Start → List Item → ℕ → KeptContent → Type 0
 IsKeptContent topology packages me start items k (Received kept) = IsKept topology packages me start items k kept
 IsKeptContent topology packages me start items k (Told verdict) = is_some (notice_at (take k items) verdict.request) ≡ true
 IsKeptContent topology packages me start items k Nothing = Unit {0}
 
--- What each item keeps is right, by the inbox as it stood when the item had been read.
+-- Of what each item keeps `IsKeptContent` holds, over the items up to it and with it. `start` is what the inbox left at its base.
 abbrev pub AreKept : Topology → Packages → ParticipantId → Start → List KeptItem → Type 0
 AreKept topology packages me start items =
     (k : ℕ) (item : KeptItem) → slice_get items k ≡ Some item → IsKeptContent topology packages me start (take (suc k) (model_items items)) k item.content
 
--- The kept items are an inbox in order, the registry follows them, and what each of them keeps is right.
+-- The kept items are an inbox in order, the registry follows them, and of what each of them keeps `IsKeptContent` holds. Every inbox is so.
 pub record IsInbox (topology : Topology) (packages : Packages) (me : ParticipantId) (kept : List KeptItem) (stands : Registered) : Type 0 where
   pub follows : Follows (framed_reading topology packages) topology.params stands.start (model_items kept) stands
   pub order : IsInOrder (model_items kept)

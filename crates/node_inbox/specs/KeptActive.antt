@@ -29,7 +29,8 @@ is_consumed Unknown = false
 is_consumed Active = false
 is_consumed Consumed = true
 
--- Whether none of the store's rows tells that the contract of an active row was consumed.
+-- Whether none of the store's rows tells that the contract of an active row was consumed. With the rows of what came since, it tells which of the kept
+-- active contracts are active still.
 abbrev pub is_unconsumed : List StoreRow → ActiveRow → Bool
 is_unconsumed rows row = not (is_consumed (status_in rows row.known.id))
 
@@ -59,17 +60,19 @@ abbrev pub AreActiveIf : Reading → ParticipantId → Start → List Item → O
 AreActiveIf reading p start items None = Unit {0}
 AreActiveIf reading p start items (Some kept) = AreActive reading p start items kept
 
--- What becomes of kept contracts that may be false now: where the flag is true they stay as they were, and else none are kept any more.
+-- What becomes of the active contracts that an inbox keeps when it reads a verdict: `old` before it, `new` after it, None where none are kept. Where
+-- the flag is true they stay: the verdict's request isn't below their place and creates no contract that was known. Else they are dropped.
 abbrev pub IsKeptIf : Bool → (old new : Option KeptActive) → Type 0
 IsKeptIf true old new = new ≡ old
 IsKeptIf false old new = new ≡ None
 
--- Whether nothing is kept, or the kept contracts are those of a place that is at most the given one.
+-- Whether no active contracts are kept, or their place is at most the given one. So an approval of the request at that place changes nothing below
+-- theirs.
 abbrev pub are_at_most : Option KeptActive → ℕ → Bool
 are_at_most None place = true
 are_at_most (Some kept) place = nat_le kept.place place
 
--- The kept active contracts, and None where there are none or their place is behind `end`.
+-- The kept active contracts where their place is at most `end`, so that those at `end` can be made of them. None where none are kept or it is greater.
 abbrev pub not_behind : Option KeptActive → ℕ → Option KeptActive
 not_behind None end = None
 not_behind (Some kept) end = if nat_le kept.place end then Some kept else None

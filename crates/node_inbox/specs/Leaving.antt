@@ -14,7 +14,8 @@ abbrev pub consumed_in : List StoreRow → List Hash
 consumed_in [] = []
 consumed_in (row ∷ rows) = if is_some row.consumed_at then row.known.id ∷ consumed_in rows else consumed_in rows
 
--- The id of a row's contract, as a list of one, where there is a row and its contract was consumed, and else no id.
+-- The id of a row's contract, as a list of one, where there is a row and its contract was consumed, and else no id: what the row at one index adds in
+-- `gone_in`.
 abbrev pub consumed_at : Option StoreRow → List Hash
 consumed_at None = []
 consumed_at (Some row) = consumed_in (row ∷ [])

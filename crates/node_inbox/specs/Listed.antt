@@ -32,7 +32,8 @@ abbrev pub listed : List StoreRow → List ActiveRow
 listed [] = []
 listed (row ∷ rows) = listed_if (active row) (listed rows)
 
--- The active contract of a row, as a list of one, where there is a row and its contract is active, and else an empty list.
+-- The active contract of a row, as a list of one, where there is a row and its contract is active, and else an empty list: what the row at one index
+-- adds to a list of active contracts.
 abbrev pub listed_at : Option StoreRow → List ActiveRow
 listed_at None = []
 listed_at (Some row) = listed (row ∷ [])

@@ -18,12 +18,12 @@ changed_row place is_create row = if is_create then with_created place row else 
 abbrev pub row_after : ℕ → Change → Option StoreRow → StoreRow
 row_after place change before = changed_row place change.is_create (unwrap_or before (new_row change.known))
 
--- In each of these pairs the id is that of the row's contract.
+-- In each of these pairs the id is that of the row's contract, as it always is in `LiveRows`.
 abbrev pub AreById : List (Hash × StoreRow) → Type 0
 AreById [] = Unit {0}
 AreById (entry ∷ entries) = (entry.0 ≡ entry.1.known.id) × AreById entries
 
--- Whether there is a row and its contract was consumed.
+-- Whether there is a row and its contract was consumed, as `LiveRows::is_consumed` asks of an id's row.
 abbrev pub has_consumed_row : Option StoreRow → Bool
 has_consumed_row None = false
 has_consumed_row (Some row) = is_some row.consumed_at

@@ -21,6 +21,7 @@ pub record AreOnce (reading : Reading) (start : Start) (items : List Item) : Typ
   pub once : CreatedOnce (changes_since reading start items)
   pub none_gone : NoneGone start (changes_since reading start items)
 
--- Where the flag `once` is true, no contract is created twice (`AreOnce`). Where it is false nothing is said.
+-- What an inbox's flag `is_once` stands for: where it is true, no contract is created twice and none that is gone is created (`AreOnce`), so that the
+-- participant may offer its contracts straight from the store. Where it is false nothing is said, and they are made into a list.
 abbrev pub AreOnceIf : Bool → Reading → Start → List Item → Type 0
 AreOnceIf once reading start items = once ≡ true → AreOnce reading start items

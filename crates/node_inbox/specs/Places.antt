@@ -30,7 +30,8 @@ abbrev pub parts_at : List Item → List ℕ → List Commit
 parts_at items [] = []
 parts_at items (k ∷ ks) = part_if true k (opened_at items k) ++ parts_at items ks
 
--- Whether the participant sees a view of the request at place k and its envelope isn't complete. It is false where no request was received there.
+-- Whether the participant sees a view of the request at place k and its envelope isn't complete. So the place is withheld where the request is
+-- approved. It is false where no request was received there.
 abbrev pub is_kept_from_at : List Item → ℕ → Bool
 is_kept_from_at items k = is_kept_from (notice_at items k)
 
@@ -39,8 +40,8 @@ pub record AreApproved (params : Params) (items : List Item) (approved : Approve
   pub within : approved.below ≤ length items
   pub places : approved.places ≡ approved_below params items approved.below
 
--- What becomes of kept places that may be false now: where the flag is true they stay as they were, and else those below the base are kept, of
--- which there are none.
+-- What becomes of the kept places, `old`, when a verdict is read. Where the flag is true they stay as they were. Else they may lack the verdict's
+-- request now, and `new` has the places below the base, of which there are none, so that all are gathered anew.
 abbrev pub AreKeptIf : Bool → ℕ → (old new : ApprovedPlaces) → Type 0
 AreKeptIf true base old new = new ≡ old
 AreKeptIf false base old new = (new.below ≡ base) × (new.places ≡ [])

@@ -40,8 +40,8 @@ raw_items items = map raw_item items
 
 -- ---- as the definitions of the protocol see it
 
--- What an envelope's bytes offer to somebody who sees the views with the paths `seen` of a request whose mediator's tree has the hash `root`. Where
--- there is no envelope (None), that is Missing.
+-- What an envelope's bytes offer to somebody who sees the views with the paths `seen` of a request whose mediator's tree has the hash `root`. It is
+-- Missing where there is no envelope (None), or where an opened tree names a party that the topology lacks.
 abbrev pub offer_by : Topology → List ℕ → List Path → Option (List ℕ) → OpenedFor
 offer_by topology root seen None = Missing
 offer_by topology root seen (Some bytes) = if_known topology (opened_for_root root seen (list_any is_root_path seen) bytes)

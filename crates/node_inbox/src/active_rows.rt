@@ -192,7 +192,7 @@ fn first_of(items: &KeptItems, end: u64) -> u64
 }
 
 /// Rows as a store has them, of active and of consumed contracts: of those that were left at the base and of those that approved requests below the
-/// place `end` created or consumed. Goes through the places from the base up to `end`.
+/// place `end` created or consumed. Goes through the places from the base up to `end`. `setup` is there for the contract alone.
 pub fn rows_below<'k>(
     alloc: Global,
     setup: &Setup,

@@ -100,8 +100,9 @@ fn front(changes: &[Change], count: usize) -> &[Change]
     }
 }
 
-/// The ids of the new contracts with a stakeholder hosted by `me` that these changes create, in order; and whether every contract that they create is
-/// new: the store doesn't know it, and no change before is on it.
+/// The ids of the new contracts with a stakeholder hosted by `me` that these changes create, in order, for the caller to put among those that it
+/// offers; and whether every contract that they create is new, so that neither the store, without these changes, nor a change before knows it. Where
+/// one isn't, the inbox can no longer say that no contract was created twice.
 pub fn added_ids(
     alloc: Global,
     setup: &Setup,

@@ -20,7 +20,8 @@ use ledger_model::{Commit, CommitList};
 use ledger_terms::ActionNodeList;
 use std::alloc::{AllocError, Global};
 
-/// Whether the request at a place is approved. It is false where no request was received there.
+/// Whether the request at a place is approved, by what was read. It is false where no request is tracked: where none was received, and below the base,
+/// where those that were are forgotten.
 pub fn is_approved(registry: &Registry, place: u64) -> bool
     ensures { result ≡ is_approved (outcome_at registry.now.tracking.pairs place) }
 {
@@ -43,7 +44,7 @@ fn opened_at(items: &KeptItems, place: u64) -> Option<&KeptRequest>
     request_at(items, place)
 }
 
-/// The request that was received at a place, where it is approved by what was read, and else none.
+/// The request that was received at a place, where it is approved by what was read, and else none. `setup` is there for the contract alone.
 pub fn approved_at<'i>(
     setup: &Setup,
     items: &'i KeptItems,
@@ -64,7 +65,7 @@ pub fn approved_at<'i>(
     }
 }
 
-/// Puts trees of actions behind the commits, as the commit of a place. Where there are no trees nothing is put there.
+/// Puts trees of actions behind the commits, as the commit of a place. Where there are no trees, or memory is wanting, nothing is put there.
 pub fn push_commit(
     place: u64,
     roots: ActionNodeList,
@@ -126,8 +127,8 @@ fn opened_of(alloc: Global, items: &KeptItems, places: &[u64]) -> Result<CommitL
     Ok(commits)
 }
 
-/// The commits of the approved requests below the place `end`, as they are opened, without those of which nothing is. `approved` has the first of
-/// their places, so that only the places behind these are gone through.
+/// The commits of the approved requests below the place `end`, as they are opened, without those of which nothing is. `approved` has the first of their
+/// places, so that only the places behind these are gone through. `setup` is there for the contract alone.
 pub fn applied(
     alloc: Global,
     setup: &Setup,

@@ -28,7 +28,7 @@ impl ApprovedPlaces {
         }
     }
 
-    /// The places below `below`, where nothing was received there: there are none.
+    /// The places of an inbox that begins at the base `below` and so has received no request below it: there are none.
     pub fn at(alloc: Global, below: u64) -> ApprovedPlaces
         ensures below { result.below ≡ below }
         ensures places { result.places ≡ [] }
@@ -39,7 +39,9 @@ impl ApprovedPlaces {
         }
     }
 
-    /// Leaves the places as they are where `kept` is true. Else it goes back to those below the base, of which there are none. Takes no memory.
+    /// What becomes of these places when a verdict is read. Where `kept` is true, since its request isn't below `below`, they stay as they are. Else
+    /// they may be false now and are gathered anew: there are no places then, and `below` is the participant's base, from below which the inbox has
+    /// nothing. Takes no memory.
     pub fn keep_if(&mut self, kept: bool, base: u64)
         ensures { AreKeptIf kept base self.old self.new }
     {
@@ -48,7 +50,7 @@ impl ApprovedPlaces {
         }
     }
 
-    /// These places, where their `below` isn't behind the place `end`, and else `none`, which are the places below 0.
+    /// These places, where their `below` is at most the place `end`, and else `none`, for which callers give the places below 0 (`new`).
     pub fn not_behind<'a>(&'a self, none: &'a ApprovedPlaces, end: u64) -> &'a ApprovedPlaces
         ensures { result.now ≡ (if nat_le self.now.below end then self.now else none.now) }
     {
@@ -71,7 +73,8 @@ impl ApprovedPlaces {
     }
 }
 
-/// Adds the places of the approved requests from `below` on and below the place `end`. After want of memory `below` stands where memory ran out.
+/// Adds the places of the approved requests from `below` on and below the place `end`, and moves `below` to `end`; it changes nothing where `below`
+/// isn't less. After want of memory the places are those that were added until then, and `below` is the place at which memory ran out.
 pub fn bring_up(
     approved: &mut ApprovedPlaces,
     registry: &Registry,

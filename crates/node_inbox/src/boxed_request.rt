@@ -30,7 +30,7 @@ impl Model for BoxedRequest {
 }
 
 impl BoxedRequest {
-    /// Moves a request to where it stands apart from its item.
+    /// Moves a request into a box, so that an item is small whether it has a request or none.
     pub fn new(alloc: Global, request: KeptRequest) -> Result<BoxedRequest, AllocError>
         ensures { IfOk result (λ boxed. boxed ≡ request) }
     {

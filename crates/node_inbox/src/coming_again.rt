@@ -49,7 +49,7 @@ fn offer_by(
 }
 
 /// What the inbox of participant `me` keeps of a request that a state had, before it is put there. The envelope is read once more, without the
-/// mediator's tree beside it.
+/// mediator's tree beside it. `me` is there for the contract alone.
 pub fn coming_again(
     alloc: Global,
     setup: &Setup,

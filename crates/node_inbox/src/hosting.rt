@@ -95,7 +95,7 @@ impl<'i> Hosting<'i> {
     }
 
     /// Whether the participant offers a contract, which was created at the place `created_at`, to its submissions: the contract isn't gone, and has a
-    /// stakeholder that it hosts.
+    /// stakeholder that it hosts. The place has no effect on that.
     pub fn offers(&self, alloc: Global, created_at: u64, known: &Known) -> Result<bool, AllocError>
         ensures { IfOk result (λ b. b ≡ offers self.now (active_row_of created_at known.now)) }
     {

@@ -116,7 +116,8 @@ fn put_row(live: &LiveRows<'_>, at: usize, ids: &mut Vec<Hash>) -> Result<(), Al
     }
 }
 
-/// The ids in `gone`, and put among them those of the consumed contracts of the rows: ascending, each once, where `gone` is so.
+/// The ids in `gone` with the ids of the consumed contracts of the rows put among them. They ascend and are there once each, where those in `gone` do
+/// and are.
 pub fn gone_in(alloc: Global, gone: &[Hash], live: &LiveRows<'_>) -> Result<HashList, AllocError>
     ensures { IfOk result (λ ids. ids ≡ with_parties (consumed_in live.now) gone.now) }
 {

@@ -28,8 +28,8 @@ fn decision_of(params: &Params, time: u64) -> u64
         .saturating_add(params.reaction_timeout)
 }
 
-/// Puts an item that brings nothing behind the others, and the registry follows. `time` is its entry's, in microseconds. An error leaves the
-/// items as they were.
+/// Puts an item that brings nothing behind the others, and the registry follows. `time` is its entry's, in microseconds. `setup` and `me` are there for
+/// the contract alone. An error leaves the items as they were.
 pub fn put_nothing(
     setup: &Setup,
     me: ParticipantId,
@@ -55,7 +55,7 @@ pub fn put_nothing(
 }
 
 /// Puts the item of a request of which participant `me` is a recipient behind the others, and the registry follows: the request is tracked, and holds
-/// the contracts that it changes. `time` is its entry's, in microseconds. An error leaves the items as they were.
+/// the contracts that it changes. `time` is its entry's, in microseconds. `me` is there for the contract alone. An error leaves the items as they were.
 pub fn put_request(
     setup: &Setup,
     me: ParticipantId,
@@ -87,8 +87,8 @@ pub fn put_request(
     Ok(())
 }
 
-/// Puts the item of a verdict on a request that was received behind the others, and the registry follows: where the verdict is the first on its
-/// request, that is settled and its changes are written. `time` is its entry's, in microseconds. An error leaves the items as they were.
+/// Puts the item of a verdict on a received request behind the others, and the registry follows: a first verdict settles its request, and its changes
+/// are written. `time` is its entry's, in microseconds. `setup` and `me` are there for the contract alone. An error leaves the items as they were.
 pub fn put_verdict(
     setup: &Setup,
     me: ParticipantId,

@@ -77,7 +77,7 @@ fn push_taken(
 }
 
 /// The commits of the approved requests below the place `end`, as they are opened, without those of which nothing is. They are made of the items
-/// themselves: actions that nobody else looks at are moved and not copied.
+/// themselves: actions that nobody else looks at are moved and not copied. `setup` is there for the contract alone.
 pub fn into_applied(
     setup: &Setup,
     items: KeptItems,

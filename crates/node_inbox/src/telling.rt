@@ -81,7 +81,8 @@ fn changes_by(
     }
 }
 
-/// What comes of a verdict before it is put into the inbox of participant `me`, and none exactly where the verdict's request wasn't received.
+/// What comes of a verdict before it is put into the inbox of participant `me`, and none exactly where the verdict's request wasn't received. `setup`
+/// and `me` are there for the contract alone.
 pub fn telling(
     alloc: Global,
     setup: &Setup,

@@ -86,8 +86,8 @@ fn push_if_withheld(
     Ok(())
 }
 
-/// The withheld places below the place `end`, ascending. `approved` has the first places of approved requests, so that only the places behind
-/// these are gone through.
+/// The withheld places below the place `end`, ascending. `approved` has the first places of approved requests, so that only the places behind these are
+/// gone through. `setup` is there for the contract alone.
 pub fn withheld(
     alloc: Global,
     setup: &Setup,

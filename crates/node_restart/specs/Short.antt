@@ -11,8 +11,8 @@ use Rattle.node_core.specs.Participant.{IsPrunedTo, Participant, params_of, read
 use Rattle.node_core.specs.States.{IsStateOf}
 
 -- What a participant p needs so that its state has a spelling. It has read a genuine log of fewer than 2^15 entries, of at most 255 participants, and
--- keeps the inbox of it from its base on. It has claimed places of the log alone, and each response that waits is to such a place, with the verdicts
--- that it owes there. `state` is the state of p.
+-- keeps the inbox of it from its base on. It has claimed places of the log alone, and each response that waits is to a place of the log, with the
+-- verdicts that it owes there. `state` is the state of p.
 pub record HasReadShort (p : Participant) (log : List Entry) (state : State) : Type 0 where
   pub hosts : length (p.topology).hosts ≤ 255
   pub genuine : Genuine (reading_of p) (params_of p) log

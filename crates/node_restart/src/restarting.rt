@@ -25,8 +25,8 @@ fn read_back(alloc: Global, bytes: &[u8]) -> Result<NodeState, AllocError>
     }
 }
 
-/// The participant that begins from the bytes of this one's state, pruned to the base of its inbox. It has read what this one has read, and whatever
-/// is asked of places from its base on it answers as this one does. This one stays as it is.
+/// The participant that begins from the bytes of this one's state, pruned to the base of its inbox. It has read what this one has read, and claims
+/// again what this one hasn't finished. All else that is asked of places from its base on it answers as this one does. This one stays as it is.
 pub fn restarted<'s>(
     alloc: Global,
     setup: &'s Setup,

@@ -36,8 +36,8 @@ each_knowledge topology packages me log zero = knowledge_at topology packages me
 each_knowledge topology packages me log (suc place) =
     each_knowledge topology packages me log place ++ knowledge_at topology packages me log (suc place) ∷ []
 
--- The inbox may read the entry next: fewer than 2^63 items were read, the entry is later than the last of them, and its request, if it brings one, is
--- framed.
+-- The inbox may read the entry next: fewer than 2^63 items were read, the entry is later than the last of them, or than 0 where none was read, and its
+-- request, if it brings one, is framed.
 pub record MayRead (inbox : InboxState) (entry : Entry) : Type 0 where
   pub few : length inbox.items < 2 ^ 63
   pub rises : last_time inbox.items < entry.time

@@ -68,15 +68,17 @@ knowledge_of inbox =
       requests = request_states_below inbox (length inbox.items);
     }
 
--- A list of the one row, and an empty one where there is none.
+-- A list of the one row, and an empty one where there is none; of `store_rows_at`.
 abbrev pub rows_in : Option StoreRow → List StoreRow
 rows_in None = []
 rows_in (Some row) = row ∷ []
 
--- A list of the one row that stands at this index in `store_rows`, counted from 0, and an empty one where there is none.
+-- A list of the one row that stands at this index in `store_rows`, counted from 0, and an empty one where there is none. So contracts of code say what
+-- one step puts behind the rows before.
 abbrev pub store_rows_at : InboxState → ℕ → List StoreRow
 store_rows_at inbox at = rows_in (slice_get (store_rows inbox) at)
 
--- A list of what the participant knows of the one contract at this index in `store_rows`, and an empty one where there is none.
+-- A list of what the participant knows of the one contract at this index in `store_rows`, and an empty one where there is none. So contracts of code
+-- say what one step puts behind the states before.
 abbrev pub contract_states_at : InboxState → ℕ → List ContractState
 contract_states_at inbox at = map (λ (row : StoreRow). contract_state inbox row.known.id) (store_rows_at inbox at)

@@ -11,7 +11,8 @@ owed_at_place inbox place =
     then record { place = place; verdicts = owed_at (reading_of inbox) (params_of inbox) inbox.me inbox.items place } ∷ []
     else []
 
--- The verdicts that the participant owes to each request below a place, in order of place.
+-- The verdicts that the participant owes to each request below a place, decided or not, in order of place; a request to which it owes none isn't
+-- listed.
 abbrev pub owed_below : InboxState → ℕ → List Owed
 owed_below inbox zero = []
 owed_below inbox (suc place) = owed_below inbox place ++ owed_at_place inbox place

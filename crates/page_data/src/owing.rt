@@ -51,7 +51,8 @@ fn put_owed(
     Ok(())
 }
 
-/// The verdicts that a participant that has forgotten nothing owes to each request that it has read, in order of place. They are found by its checks.
+/// The verdicts that a participant that has forgotten nothing owes to each request that it has read, decided or not, in order of place. They are found
+/// by its checks. A request to which it owes none isn't listed.
 pub fn owed_by(alloc: Global, inbox: &Inbox<'_>) -> Result<OwedList, AllocError>
     requires { HasNoStart inbox.now }
     ensures { IfOk result (λ all. all ≡ owed_below inbox.now (length inbox.now.items)) }

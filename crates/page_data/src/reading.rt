@@ -92,8 +92,8 @@ fn read_course(alloc: Global, inbox: &mut Inbox<'_>, log: &[Entry]) -> Result<Co
     })
 }
 
-/// What participant `me`, which forgets nothing, learns of a genuine log. It reads the log as it did in the run, and is asked for what it knows
-/// before the first entry and after each.
+/// What participant `me`, which forgets nothing, learns of a genuine log, which it reads as it did in the run: what it knows before the first entry and
+/// after each, the contracts of which it is told, and the verdicts that it owes. An Err is want of memory.
 pub fn course_of(
     alloc: Global,
     setup: &Setup,

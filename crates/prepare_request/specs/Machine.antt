@@ -46,8 +46,8 @@ abbrev pub is_sealable : Topology → Packages → List Known → Submission →
 is_sealable topology packages known what now =
     is_within topology packages what && can_seal topology packages what.participant (wanted_tx topology packages what.participant known what now)
 
--- The request that a submission wants over its participant's inbox (`items`). None where it wants none, where it isn't within the topology, or where it
--- can't be sealed and framed, which is never so of what a client's types can hold. `now` is its ledger time where it states none.
+-- The request that a submission wants over its participant's inbox (`items`). None where it wants none or isn't within the topology; and where it can't
+-- be sealed and framed, which is never so of what a client's types can hold. `now` is its ledger time where it states none.
 abbrev pub prepare_over : Topology → Packages → Offered → Submission → List Item → (now : ℕ) → Option Request
 prepare_over topology packages offered what items now =
     if is_sealable topology packages (offered what.participant items) what now

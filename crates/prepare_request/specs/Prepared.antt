@@ -112,8 +112,8 @@ tx_where_wanted topology me what now (Err fault) = Err (Command fault)
 abbrev pub wanted_tx : Topology → Packages → (me : ℕ) → List Known → Submission → (now : ℕ) → Result Tx SubmitFault
 wanted_tx topology packages me known what now = tx_where_wanted topology me what now (actions_for topology packages me known what)
 
--- The views of a transaction with these root actions, where there are any. A transaction has at least one view, so one without actions gets the fault
--- NoRoles, with the empty path.
+-- The result of splitting a transaction into views (second argument), where it has a root action. A transaction has at least one view, so one without
+-- actions gets the fault NoRoles, with the empty path.
 abbrev pub if_some : Actions → Result Views SplitFault → Result Views SplitFault
 if_some NoRoots views = Err (NoRoles [])
 if_some (Root act below others) views = views

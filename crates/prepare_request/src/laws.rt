@@ -48,8 +48,8 @@ pub fn faults_have_causes()
         → HasCause topology packages me known what now fault }
 {}
 
-/// A submission that has the cause of a fault is refused with that fault. So a fault is given exactly where its cause is the first
-/// that holds.
+/// A submission that has the cause of a fault (`HasCause`) is refused with that fault. With `faults_have_causes` a fault is given exactly where its
+/// cause holds, so no two faults have their causes at once.
 pub fn causes_are_given()
     ensures { (topology : Topology) (packages : Packages) (me : ℕ) (known : List Known) (what : Submission) (now : ℕ) (fault : SubmitFault)
         → HasCause topology packages me known what now fault
@@ -101,7 +101,7 @@ pub fn offered_contracts_are_active()
         → hosted_rows ids (written (placed_below reading items n) []) ≡ knowns (node_active reading p items n) }
 {}
 
-/// What a participant offers over its inbox of a genuine log names only parties of the topology.
+/// What a participant offers at any place of its inbox of a genuine log names only parties of the topology.
 pub fn offered_contracts_name_parties_of_the_topology()
     ensures { (topology : Topology) (packages : Packages) (log : List Entry) (p : ParticipantId) (n : ℕ)
         → Genuine (framed_reading topology packages) topology.params log

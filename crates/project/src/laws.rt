@@ -12,7 +12,8 @@ ghost use Rattle.lang_eval.specs.Parts.{PartyNames};
 ghost use Rattle.lang_eval.specs.Language.{language_of};
 ghost use Rattle.project.specs.Informed.{projection};
 
-/// The projection to some parties is what a sender that keeps the rules opens to a participant that hosts exactly these parties.
+/// The projection to some parties is what a sender that keeps the rules opens to a participant that hosts exactly these parties. It holds whatever the
+/// language of the packages calls creatable and exercisable, since projections don't ask that.
 pub fn projection_is_opened()
     ensures { (packages : Packages) (is_creatable : Instance → Bool) (is_exercisable : ChoiceCall → PartyNames → Bool → Value → Bool)
         (hosts : Name → Bool) (parties : PartyNames) (roots : Actions)

@@ -51,8 +51,8 @@ fn project_into(
     Ok(())
 }
 
-/// What the parties are told of trees whose actions all have roles: an action of which one of them is informed stays with all its consequences, and
-/// any other gives way to what they are told of its consequences. Err is want of memory.
+/// What the parties are told of trees whose actions all have roles: an action of which one of them is informed stays with all its consequences, and any
+/// other gives way to what they are told of its consequences. Err is want of memory. The layers' tests (`layer_cases`) use it.
 pub fn project(
     alloc: Global,
     checked: &Checked,

@@ -34,8 +34,8 @@ request_of_tx topology packages sender name command tx =
 abbrev pub confirms_any_view : (confirms : List ℕ → Bool) → Forest SplitView → Bool
 confirms_any_view confirms views = list_any (λ (view : SplitView). list_any confirms view.confirmers) (preorder views)
 
--- The envelope to participant p, cut from the tree in which every hash is kept. The name is the sender's. It is the same as `envelope_by`, and hashes
--- nothing again.
+-- The envelope to participant p, cut from the request's tree in which every hash is kept (first argument); the name is the sender's. For a tree of the
+-- same views it is the envelope of `envelope_by`, and the code that makes it so hashes nothing again.
 abbrev pub envelope_cut : KeptTree → (name : List ℕ) → List Host → ℕ → Envelope
 envelope_cut kept name hosts p = record { to = p; bytes = spell_tree (cut_tree kept name hosts (Participant p)) }
 

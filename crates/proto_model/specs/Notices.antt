@@ -14,7 +14,7 @@ abbrev pub confirmed_among : (confirms : Name → Bool) → List ViewRoles → L
 confirmed_among confirms views =
     map (λ (view : ViewRoles). view.path) (filter (λ (view : ViewRoles). list_any confirms view.confirmers) views)
 
--- how many steps a view's path has, where the participant hosts an informee of it; else None
+-- how many steps a view's path has, where the participant hosts an informee of it; else None. `hosts` tells which parties it hosts. For `top_seen`.
 abbrev pub top_here : (hosts : Name → Bool) → ViewRoles → Option ℕ
 top_here hosts view = if list_any hosts view.informees then Some (length view.path) else None
 

@@ -12,8 +12,8 @@ ghost use Rattle.sealed_form.specs.SealedForm.{CanBeSealed, Whole, envelope_to, 
 ghost use Rattle.framed_form.specs.FramedForm.{opened_to};
 ghost use Rattle.proto_model.specs.RequestedViews.{ShowsNoContents, requested_views};
 
-/// Nothing is opened to a participant without an envelope, and of a transaction's request only the sender and who sees a view
-/// gets one.
+/// Nothing is opened to a participant without an envelope, and the request that a sender makes of a transaction in its own name has an envelope for no
+/// participant but the sender and who sees a view.
 pub fn nothing_is_opened_without_an_envelope()
     ensures opened { (topology : Topology) (request : Request) (p : ℕ) → envelope_to p request.envelopes ≡ None → opened_to topology p request ≡ None }
     ensures made { (topology : Topology) (packages : Packages) (sender : ℕ) (name command : List ℕ) (salts : Salts) (t : Transaction) (p : ℕ)
@@ -22,7 +22,8 @@ pub fn nothing_is_opened_without_an_envelope()
         → envelope_to p (request_of topology packages sender name command salts t).envelopes ≡ None }
 {}
 
-/// The mediator's bytes tell the informees and confirmers of every view, and show neither contents nor who requests.
+/// Of the request of a transaction that can be sealed, the mediator's bytes tell the sender's name and the informees and confirmers of every view, and
+/// show neither contents nor who requests.
 pub fn the_mediator_is_told_who_sees_and_confirms()
     ensures told { (topology : Topology) (packages : Packages) (sender : ℕ) (command : List ℕ) (whole : Whole)
         → CanBeSealed topology packages sender whole

@@ -100,8 +100,7 @@ fn is_recipient(me: ParticipantId, request: &Request, seen: &PathList) -> bool
     me == request.sender || is_some_path(seen)
 }
 
-/// What participant `me` reads of a request, where `outline` is what the mediator's bytes tell, and None exactly where it isn't a recipient. Its
-/// envelope is read once, whatever it is.
+/// What participant `me` reads of a request, where `outline` is what the mediator's bytes tell. None exactly where it is no recipient of the request.
 pub fn read_notice(
     alloc: Global,
     topology: &Topology,

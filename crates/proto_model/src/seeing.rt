@@ -88,7 +88,7 @@ pub fn confirmed_among(
     Ok(confirmed)
 }
 
-/// Whether one of these paths is that of a root view, which has one step.
+/// Whether one of these paths is that of a root view, which has one step. Who sees a root view is to be told the requesters.
 pub fn has_root(paths: &PathList) -> bool
     ensures { result ≡ list_any is_root_path paths.now }
 {

@@ -68,7 +68,8 @@ status_since start since c =
     else if has_row start.active c || list_any (creates c) since then Active
     else Unknown
 
--- The status of the contract with the id c at place k, from the start and the items that are kept; it is that of the whole inbox.
+-- The status of the contract with the id c at place k, from the start and the items that are kept. From the base on it is that of the whole inbox
+-- (`AnswersAlike`).
 abbrev pub status_kept : Reading → Start → List Item → ℕ → Hash → Status
 status_kept reading start kept k c = status_since start (past_in reading kept k) c
 
@@ -96,7 +97,8 @@ verdicts_by reading params p time status locked (Some notice) =
     map (λ (path : Path). record { view = path; verdict = verdict_in_offer reading params p notice.sender time status locked path notice.offer })
     notice.confirmed
 
--- The verdicts that participant p owes at place k, from the start and the items that are kept; they are those of the whole inbox.
+-- The verdicts that participant p owes at place k, from the start and the items that are kept; none where no request was received there. From the base
+-- on they are those of the whole inbox (`AnswersAlike`).
 abbrev pub verdicts_kept : Reading → Params → ParticipantId → Start → List Item → ℕ → List ViewVerdict
 verdicts_kept reading params p start kept k =
     verdicts_by reading params p (item_time (slice_get kept k)) (status_kept reading start kept k) (is_locked_in_inbox reading params kept k)
@@ -114,7 +116,8 @@ is_active_since reading p start since row = not (is_gone start row.known.id) && 
 abbrev pub rows_since : Reading → Start → List Item → ℕ → List ActiveRow
 rows_since reading start kept n = first_of_each (start.active ++ created_below reading kept n)
 
--- The active contracts of participant p at place n, from the start and the items that are kept; they are those of the whole inbox.
+-- The active contracts of participant p at place n, from the start and the items that are kept. From the base on they are those of the whole inbox
+-- (`AnswersAlike`).
 abbrev pub active_kept : Reading → ParticipantId → Start → List Item → ℕ → List ActiveRow
 active_kept reading p start kept n =
     filter (is_active_since reading p start (authentic_below reading kept n)) (rows_since reading start kept n)

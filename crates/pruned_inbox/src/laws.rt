@@ -30,8 +30,8 @@ pub fn pruned_inboxes_answer_alike()
         → AnswersAlike reading params p items (forget b items) b start }
 {}
 
-/// The items from the base on, behind as many silent items of which the last is at the time before the base, answer alike too: nothing else of the
-/// items below the base is wanted.
+/// Behind b silent items, the last of which has the time of the item before b, the items of an orderly inbox from a base b on answer with its `start`
+/// whatever is asked of places from b on as the whole inbox does. So of the items below b no more is wanted.
 pub fn silent_fronts_answer_alike()
     ensures { (reading : Reading) (params : Params) (p : ParticipantId) (items : List Item) (b : ℕ) (start : Start)
         → IsOrderly params items
@@ -72,7 +72,8 @@ pub fn starts_have_the_active_contracts()
         → node_active reading p items b ≡ filter (λ (row : ActiveRow). is_stakeholder_hosted reading p row.known.instance) start.active }
 {}
 
-/// Every inbox of a log whose times and verdicts are in order is orderly.
+/// Every participant's inbox of a log is orderly, as the laws above ask, where the log's times follow one another and each of its verdicts is the
+/// mediator's decision, the first on its request and not past the decision time (`Timely`). So it is of every genuine log.
 pub fn inboxes_are_orderly()
     ensures { (reading : Reading) (params : Params) (p : ParticipantId) (log : List Entry)
         → Timely params log
@@ -85,7 +86,8 @@ pub fn base_is_greatest()
     ensures greatest { (params : Params) (items : List Item) (n : ℕ) → IsBase params items n → n ≤ Base.base params items }
 {}
 
-/// What is read later comes behind what is kept (`behind`), and a verdict that comes later is on a request that is kept.
+/// What is read later comes behind what is kept of an inbox from b on, where b isn't behind its end (`behind`). In an orderly inbox with a base b a
+/// verdict that stands at b or behind it is on a request that stands there, too, and so is kept.
 pub fn pruned_inboxes_are_read_on()
     ensures behind { (b time : ℕ) (items more : List Item)
         → b ≤ length items
@@ -99,8 +101,8 @@ pub fn pruned_inboxes_are_read_on()
         → b ≤ v.request }
 {}
 
-/// What a start and the items that are kept from it on leave at a later place n (`next`) is what the whole inbox leaves there, and the base of what
-/// is kept is that of the whole, so that an inbox may be pruned again.
+/// What a start and the items that are kept of an orderly inbox from its base b on leave at a later place n (`next`) is what the whole inbox leaves
+/// there, and the base of what is kept is that of the whole, so that an inbox may be pruned again.
 pub fn pruned_inboxes_are_pruned_again()
     ensures start { (reading : Reading) (params : Params) (items : List Item) (b n : ℕ) (start next : Start)
         → IsOrderly params items
@@ -126,7 +128,8 @@ pub fn times_below_the_base_make_no_difference()
         → AnswersAlike reading params p whole (retime times kept) b start }
 {}
 
-/// Where claims and responses agree from the base b on, the place that is claimed next and the response that is sent next are the same.
+/// Where a pruned inbox answers alike (`AnswersAlike`), and claims and responses agree from the base b on (`DutiesAlike`), the place that is claimed
+/// next and the response that is sent next are the same.
 pub fn claims_and_responses_are_alike()
     ensures claim { (reading : Reading) (params : Params) (p : ParticipantId) (b : ℕ) (start : Start) (whole kept : NodeState)
         → AnswersAlike reading params p whole.items kept.items b start

@@ -7,7 +7,7 @@ use Rattle.interpret.specs.declared.command_fault.CommandFault.TheVariants.{TooD
 use Rattle.view_split.specs.declared.split_fault.SplitFault.{SplitFault}
 use Rattle.view_split.specs.declared.split_fault.SplitFault.TheVariants.{NoRoles, Memory as SplitMemory}
 
--- the word that a report has for a fault of commands; where an evaluation failed, that for the evaluation's own fault
+-- the word that a report has for a fault of commands; where an evaluation failed, that for the evaluation's own fault; nothing for want of memory
 abbrev pub command_fault_name : CommandFault → List ℕ
 command_fault_name (UnknownTemplate root) = codes "UnknownTemplate"
 command_fault_name (UnknownChoice root) = codes "UnknownChoice"
@@ -20,7 +20,7 @@ command_fault_name (Unauthorised path) = codes "Unauthorised"
 command_fault_name (TooBig bytes) = codes "TooBig"
 command_fault_name CommandMemory = []
 
--- the word that a report has for a fault of splitting a transaction into views
+-- the word that a report has for a fault of splitting a transaction into views; nothing for want of memory
 abbrev pub split_fault_name : SplitFault → List ℕ
 split_fault_name (NoRoles path) = codes "NoRoles"
 split_fault_name SplitMemory = []

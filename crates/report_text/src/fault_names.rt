@@ -5,8 +5,8 @@ ghost use Rattle.report_text.specs.FaultNames.{command_fault_name, split_fault_n
 use interpret::CommandFault;
 use view_split::SplitFault;
 
-/// The word that a report has for a fault of commands. Where an evaluation failed, it is the word for the evaluation's own fault. Want of memory has
-/// none.
+/// The word that a report has for a fault of commands. Where an evaluation failed, it is the word for the evaluation's own fault. For want of memory it
+/// is the empty text.
 pub fn command_fault_name(fault: &CommandFault) -> &'static str
     ensures { result.now ≡ command_fault_name fault.now }
 {
@@ -24,7 +24,7 @@ pub fn command_fault_name(fault: &CommandFault) -> &'static str
     }
 }
 
-/// The word that a report has for a fault of splitting a transaction into views. Want of memory has none.
+/// The word that a report has for a fault of splitting a transaction into views. For want of memory it is the empty text.
 pub fn split_fault_name(fault: &SplitFault) -> &'static str
     ensures { result.now ≡ split_fault_name fault.now }
 {

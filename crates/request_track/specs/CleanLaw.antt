@@ -9,7 +9,7 @@ use Rattle.request_track.specs.Pairs.{Pair, is_open, clean_of}
 abbrev pub is_open_at : List Pair → ℕ → Bool
 is_open_at pairs m = list_any (λ (p : Pair). nat_eq p.0 m && is_open p) pairs
 
--- whether the item at the place m of an inbox, None where there is none, is a request that isn't decided over the whole inbox
+-- whether the item at the place m of an inbox is a request that isn't decided over the whole inbox; false where no item stands there (None)
 abbrev pub is_open_item : Params → List Item → ℕ → Option Item → Bool
 is_open_item params items m None = false
 is_open_item params items m (Some item) = is_received item.content && not (is_decided_in params items m (length items))

@@ -49,7 +49,7 @@ abbrev pub clean_of : List Pair → ℕ → ℕ
 clean_of [] cursor = cursor
 clean_of (p ∷ ps) cursor = if is_open p then min p.0 (clean_of ps cursor) else clean_of ps cursor
 
--- the places with this one put in front of the first that isn't smaller
+-- The places with this one put in front of the first that isn't smaller, and at the end where all are smaller. So a rising list stays rising.
 abbrev pub in_place : ℕ → List ℕ → List ℕ
 in_place p [] = p ∷ []
 in_place p (q ∷ qs) = if nat_le p q then p ∷ q ∷ qs else q ∷ in_place p qs
@@ -74,16 +74,19 @@ abbrev pub without : ℕ → List ℕ → List ℕ
 without p [] = []
 without p (q ∷ qs) = if nat_eq p q then qs else q ∷ without p qs
 
--- the first of the places or the cursor (second argument), whichever is less; the cursor where there are no places
+-- The first of the places or the cursor (second argument), whichever is less; the cursor where there are no places. Of the rising places of all
+-- undecided requests it is the clean place.
 abbrev pub first_or : List ℕ → ℕ → ℕ
 first_or [] cursor = cursor
 first_or (p ∷ ps) cursor = min p cursor
 
--- the places with this one put in where the test holds, else as they are
+-- the places with this one put in where the test holds, else as they are: how the list of undecided places follows a request that comes or is given an
+-- outcome
 abbrev pub put_if : Bool → ℕ → List ℕ → List ℕ
 put_if b p xs = if b then in_place p xs else xs
 
--- the places without this one where the test holds, else as they are
+-- the places without this one where the test holds, else as they are: how the list of undecided places follows a request that was undecided and is
+-- given an outcome
 abbrev pub drop_if : Bool → ℕ → List ℕ → List ℕ
 drop_if b p xs = if b then without p xs else xs
 
@@ -101,11 +104,12 @@ late_tracked time (Some t) = is_undecided t.outcome && nat_lt t.decision time
 abbrev pub is_late : ℕ → List Pair → ℕ → Bool
 is_late time ps place = late_tracked time (tracked_at ps place)
 
--- the first of these places, where the request there is late at this time; else None
+-- The first of these places, where the request there is late at this time; else None. Places behind it aren't looked at. For `first_late`.
 abbrev pub late_first : ℕ → List Pair → List ℕ → Option ℕ
 late_first time ps [] = None
 late_first time ps (place ∷ places) = if is_late time ps place then Some place else None
 
--- the least place of an undecided request, where that request is late at this time; else None
+-- the least place of an undecided request, where that request is late at this time; None where it isn't, though a later one may be, or none is
+-- undecided
 abbrev pub first_late : ℕ → List Pair → Option ℕ
 first_late time ps = late_first time ps (undecided_of ps)

@@ -15,7 +15,8 @@ pub fn tracked(pairs: &IndexMap<u64, Tracked>, place: u64) -> Option<Tracked>
     pairs.get(&place).copied()
 }
 
-/// Gives the request at a place this outcome. `decision` is its decision time, as it was. Takes no memory, since the request is there.
+/// Gives the request at a place this outcome. `decision` is the decision time with which it is tracked, and stays. Takes no memory, since the request
+/// is there.
 pub fn settle_pair(pairs: &mut IndexMap<u64, Tracked>, place: u64, decision: u64, outcome: Outcome)
     requires { option_map (λ t. t.decision) (tracked_at pairs.old.entries place) ≡ Some decision }
     ensures { pairs.new.entries ≡ settled place outcome pairs.old.entries }
@@ -23,7 +24,7 @@ pub fn settle_pair(pairs: &mut IndexMap<u64, Tracked>, place: u64, decision: u64
     let _ = pairs.insert(place, Tracked { decision, outcome }).unwrap();
 }
 
-/// Puts one more request behind the others. Room was made for it, so it takes no memory.
+/// Puts one more request behind the others; none is tracked at its place yet. Room was made for it, so it takes no memory.
 pub fn push_pair(pairs: &mut IndexMap<u64, Tracked>, place: u64, tracked: Tracked)
     requires room { 0 < spare pairs.old }
     requires absent { tracked_at pairs.old.entries place ≡ None }

@@ -71,7 +71,7 @@ pub fn remove_place(places: &mut Vec<u64>, place: u64)
     }
 }
 
-/// The first of the places, or the cursor where that is less or there is no place.
+/// The first of the rising places, or the cursor, where the cursor is less or there is no place.
 pub fn first_or(places: &Vec<u64>, cursor: u64) -> u64
     ensures { result ≡ first_or places.now.items cursor }
 {

@@ -213,7 +213,8 @@ impl Tracker {
         }
     }
 
-    /// The least place of an undecided request, where its decision time, in microseconds, is before `time`; else None.
+    /// The least place of an undecided request, where its decision time, in microseconds, is before `time`. None where it isn't, though a later one may
+    /// be, or where no request is undecided.
     pub fn first_late(&self, time: u64) -> Option<u64>
         ensures { result ≡ first_late time self.now.pairs }
     {
@@ -230,8 +231,8 @@ impl Tracker {
         self.clean = first_or(&self.undecided, self.cursor);
     }
 
-    /// Tracks one more request, undecided, which stands at `place` and has the decision time `decision`, in microseconds. After want of memory all is
-    /// as before.
+    /// Tracks one more request, undecided, which stands at `place`, where none is tracked yet, and has the decision time `decision`, in microseconds.
+    /// After want of memory all is as before.
     pub fn begin(&mut self, place: u64, decision: u64) -> Result<(), AllocError>
         requires { tracked_at self.old.pairs place ≡ None }
         ensures ok { OnOk result (self.new.pairs ≡ self.old.pairs ++ (place, record { decision = decision; outcome = Undecided }) ∷ []) }

@@ -9,7 +9,7 @@ use Rattle.pruned_inbox.specs.Base.{base}
 use Rattle.world_model.specs.Messages.{Entry}
 use Rattle.world_model.specs.Places.{has_place}
 
--- where a round begins
+-- the beginning of a round: how long the log is there, and who restarts
 pub record RoundBegin : Type 0 where
   -- how long the log is there, before the Tick of the round
   pub at : ℕ
@@ -47,7 +47,7 @@ base_over reading params log p end = base params (inbox reading p (take end log)
 abbrev pub pruned_to : Reading → Params → List Entry → List RoundBegin → ParticipantId → Option ℕ
 pruned_to reading params log begins p = option_map (base_over reading params log p) (last_restart p begins)
 
--- the base of who may have restarted: 0 where it hasn't (None)
+-- the base as reports have it, by `pruned_to`: 0 of a participant that never restarted (None)
 abbrev pub base_or_first : Option ℕ → ℕ
 base_or_first None = 0
 base_or_first (Some base) = base

@@ -1,5 +1,6 @@
--- What a client hands in, as it is accepted: its names, its references to contracts, and its counts and lengths. Whom it names
--- is said by `parties_in_commands` and `parties_in_drafts`. `hosts` is the topology of the script.
+-- What a client hands in, as it is accepted: its names, its references to contracts, and its counts and lengths. The parties that it names are those of
+-- `parties_in_commands` and `parties_in_drafts`. `hosts` is the topology of the script. No reader is asked here: these are statements about what was
+-- read.
 use Rattle.std.specs.Prelude.{◌≡◌, ℕ, ◌≤◌, true, List, length, All, MatchOption}
 use Rattle.ledger_terms.specs.Depth.{depth}
 use Rattle.ledger_terms.specs.Drafts.{Drafts}
@@ -68,7 +69,7 @@ abbrev pub IsShort : Value → Type 0
 IsShort (Text s) = length s ≤ MOST_TEXT_BYTES
 IsShort v = Unit {0}
 
--- the argument is a value without too long a text, or a reference to a contract
+-- the argument is a value that is no text of more than 256 bytes, or a reference to a contract as `IsReference` has it
 abbrev pub IsArg : List Host → Arg → Type 0
 IsArg hosts (Plain v) = IsShort v
 IsArg hosts (Contract r) = IsReference hosts r
@@ -80,8 +81,8 @@ pub record AreArgs (hosts : List Host) (most : ℕ) (args : List Arg) : Type 0 w
 
 -- ---- commands
 
--- The names of the command's template and choice are names, its reference is as `IsReference` has it, and its fields or arguments are within their
--- limits.
+-- Of a Create: its template is as `IsTemplate` has it, with at most 12 fields as `AreArgs` has them. Of an Exercise: its template is as `IsTemplate`
+-- has it, its contract as `IsReference` has it, its choice is a name, and it has at most 12 arguments as `AreArgs` has them.
 abbrev pub IsCommand : List Host → Command → Type 0
 IsCommand hosts (Create template fields) = IsTemplate template × AreArgs hosts MOST_FIELDS fields
 IsCommand hosts (Exercise template contract choice args) =
@@ -96,7 +97,8 @@ pub record AreCommands (hosts : List Host) (commands : List Command) : Type 0 wh
 
 -- ---- prepared trees
 
--- the input of a draft is a reference, or forged: with an id or none, a salt of 32 bytes, the name of a template, and fields
+-- the input of a draft is a reference as `IsReference` has it, or forged: with such a reference or none as its id, a salt of 32 bytes, a template as
+-- `IsTemplate` has it, and at most 12 fields as `AreArgs` has them
 abbrev pub IsInput : List Host → Input → Type 0
 IsInput hosts (Known r) = IsReference hosts r
 IsInput hosts (Forged id salt template fields) =
@@ -122,7 +124,8 @@ pub record AreDrafts (hosts : List Host) (drafts : Drafts) : Type 0 where
 
 -- ---- what a submission asks for
 
--- what a submission asks for is commands as `AreCommands` has them, or a prepared tree as `AreDrafts` has it, with a borrowed seed or none
+-- what a submission asks for is commands as `AreCommands` has them, or a prepared tree as `AreDrafts` has it, which borrows no seed or one as `IsSeed`
+-- has it
 abbrev pub IsWhat : List Host → What → Type 0
 IsWhat hosts (Commands commands) = AreCommands hosts commands
 IsWhat hosts (Prepared seed_of roots) = MatchOption seed_of Unit (IsSeed hosts) × AreDrafts hosts roots

@@ -1,5 +1,7 @@
 -- Values as clients hand them in: fields, arguments and results of commands and drafts. `hosts` is the topology, `at` the place of the JSON value that
--- is read. A fault Shape says that a value has another form than it should, Unknown that a name is that of no party or participant.
+-- is read. An Err is the first fault: Shape says that a value has another form than it should or that a member is absent, NotInteger that a number
+-- isn't whole or has no room in 64 bits, Limit that a text is too long or a list has too many items, Unknown that a name is that of no party or
+-- participant.
 use Rattle.std.specs.Prelude.{ℕ, List, [], ◌∷◌, if◌then◌else◌, Result, Ok, Err, ok_or, codes}
 use Rattle.serde_json.specs.Data.{Num, Data, null, boolean, number, string, array, object}
 use Rattle.serde_json.specs.Find.{as_i64}
@@ -31,7 +33,7 @@ text_arg_of at s = do
   text ← text_of at s
   Ok (arg.Plain (value.Text text))
 
--- the reference to a contract in an object `{"contract": reference}`; Shape where the object is of another form
+-- the reference to a contract in an object `{"contract": reference}`, as an argument; Shape where the value is anything else
 unfoldable pub contract_of : List Host → Place → Data → Result Arg WalkFault
 contract_of hosts at d = do
   _ ← check (has_members (codes "contract" ∷ []) [] d) (Shape at)
@@ -39,7 +41,7 @@ contract_of hosts at d = do
   reference ← reference_of hosts (at_member at (codes "contract")) m
   Ok (arg.Contract reference)
 
--- a value that names no contract, as an argument; it never fails
+-- a value that names no contract, as an argument that is read; it never fails
 abbrev pub plain : Value → Result Arg WalkFault
 plain v = Ok (arg.Plain v)
 
@@ -58,7 +60,8 @@ arg_of hosts at (string s) = text_arg_of at s
 arg_of hosts at (array ds) = Err (Shape at)
 arg_of hosts at (object ms) = object_of hosts at (object ms)
 
--- the arguments in the list that is the member `k` of the object `d`, in order; Limit where their number is outside the limit
+-- the arguments in the list that is the member `k` of the object `d`, in order: Shape where that is absent or no list, Limit where their number is
+-- outside `limit`, else the first fault of one
 unfoldable pub args_in : List Host → Place → List ℕ → Limit → Data → Result (List Arg) WalkFault
 args_in hosts at k limit d = do
   m ← member_of at k d

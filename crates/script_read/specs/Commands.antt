@@ -1,5 +1,6 @@
--- Commands of a submission. `hosts` is the topology, `at` the place of the JSON value `d` that is read. A fault Shape says that a value has another form
--- than it should or that a member is absent.
+-- Commands of a submission. `hosts` is the topology, `at` the place of the JSON value `d` that is read. An Err is the first fault: Shape says that a
+-- value has another form than it should or that a member is absent; NotInteger, Limit and Unknown come of the fields, the arguments and the reference
+-- inside (`Args.antt`, `Refs.antt`).
 use Rattle.std.specs.Prelude.{ℕ, Bool, List, [], ◌∷◌, if◌then◌else◌, Result, Ok, codes}
 use Rattle.serde_json.specs.Data.{Data}
 use Rattle.ledger_terms.specs.Pointers.{at_member}

@@ -1,6 +1,7 @@
--- Prepared trees: drafts of actions, each with its children. `hosts` is the topology, `at` the place of the JSON value `d` that is read. A fault Shape
--- says that a value has another form than it should or that a member is absent. An input is the contract that a draft uses: one that is known, or
--- a forged one, whose parts are handed in as they are.
+-- Prepared trees: drafts of actions, each with its children. `hosts` is the topology, `at` the place of the JSON value `d` that is read. An input is
+-- the contract that a draft uses: one that is known, or a forged one, whose parts are handed in as they are. An Err is the first fault: Shape says that
+-- a value has another form than it should or that a member is absent; NotInteger, Limit and Unknown come of the values and references inside
+-- (`Args.antt`, `Refs.antt`).
 use Rattle.std.specs.Prelude.{ℕ, ◌+◌, Bool, ◌||◌, List, [], ◌∷◌, Option, Some, None, if◌then◌else◌, Result, Ok, Err, codes, ⊤}
 use Rattle.std.specs.Ordering.{nat_cmp, match_ordering}
 use Rattle.std.specs.Cmp.Lexicographic.{slice_cmp}
@@ -58,13 +59,15 @@ id_in hosts at d = do
   m ← member_of at (codes "id") d
   id_of hosts (at_member at (codes "id")) m
 
--- the salt in the member `salt` of a forged input: 32 bytes
+-- the salt in the member `salt` of a forged input, 32 bytes that are written as 64 hexadecimal digits; Shape at the input where the member is absent,
+-- at the member where it is no such text
 unfoldable pub salt_in : Place → Data → Result (List ℕ) WalkFault
 salt_in at d = do
   m ← member_of at (codes "salt") d
   hash_of (at_member at (codes "salt")) m
 
--- the name of a template and the fields that an object with the members `template` and `fields` spells; of a forged instance or a drafted Create
+-- the name of a template and the fields in an object with the members `template` and `fields` alone, as a forged instance and a drafted Create have
+-- them
 unfoldable pub instance_of : List Host → Place → Data → Result (TemplateName × List Arg) WalkFault
 instance_of hosts at d = do
   _ ← check (has_create_members d) (Shape at)
@@ -78,7 +81,7 @@ instance_in hosts at d = do
   m ← member_of at (codes "instance") d
   instance_of hosts (at_member at (codes "instance")) m
 
--- the input whose id, salt and instance are handed in as they are; Shape where an object has other members
+-- the forged input that an object with the members `id`, `salt` and `instance` alone spells; Shape where the value is anything else
 unfoldable pub forged_of : List Host → Place → Data → Result Input WalkFault
 forged_of hosts at d = do
   _ ← check (has_forged_members d) (Shape at)
@@ -93,7 +96,7 @@ known_of hosts at d = do
   reference ← reference_in hosts at (codes "known") d
   Ok (input.Known reference)
 
--- the input that an object spells, a known contract or a forged one
+-- the input that an object spells: a known contract where `known` is its one member, and else a forged one
 unfoldable pub input_of : List Host → Place → Data → Result Input WalkFault
 input_of hosts at d = if is_known d then known_of hosts at d else forged_of hosts at d
 
@@ -105,19 +108,19 @@ input_in hosts at d = do
 
 -- ---- drafts without children
 
--- the set of parties in the member `actors` of a draft, all of the topology
+-- the set of the parties whose names the list in the member `actors` of a draft has; Unknown at one for which nobody of the topology confirms
 unfoldable pub actors_in : List Host → Place → Data → Result (List (List ℕ)) WalkFault
 actors_in hosts at d = do
   m ← member_of at (codes "actors") d
   parties_of hosts (at_member at (codes "actors")) m
 
--- the result in the member `result` of a drafted Exercise
+-- the value or the reference to a contract in the member `result` of a drafted Exercise
 unfoldable pub result_in : List Host → Place → Data → Result Arg WalkFault
 result_in hosts at d = do
   m ← member_of at (codes "result") d
   arg_of hosts (at_member at (codes "result")) m
 
--- a forest of one draft, without children
+-- a forest of one draft, without children: what a Create or a Fetch is read as
 abbrev pub alone : DraftAction → Drafts
 alone a = Root a NoRoots NoRoots
 
@@ -192,12 +195,12 @@ exercise_draft_of hosts at d = do
 unfoldable pub is_draft : Data → Bool
 is_draft d = is_create d || (is_exercise d || is_fetch d)
 
--- Nothing where a draft at this depth, 1 for a root, keeps the limit on depth, else the fault Limit. As drafts are read before their children, the
--- first that breaks it stands just one deeper than the limit.
+-- Nothing where a draft at this depth, 1 for a root, keeps the limit on depth, 16, else the fault Limit at the draft's place. As drafts are read before
+-- their children, the first that breaks it stands at depth 17.
 abbrev pub within_tree : Place → ℕ → Result ⊤ WalkFault
 within_tree at depth = within_limit at DRAFT_DEPTH depth
 
--- the draft of an object that is a Create or a Fetch, alone
+-- the draft, without children, of an object that is a Create or a Fetch, as `draft_of` has found before; any other is Shape
 unfoldable pub leaf_of : List Host → Place → Data → Result Drafts WalkFault
 leaf_of hosts at d = if is_create d then create_draft_in hosts at d else fetch_draft_in hosts at d
 
@@ -219,7 +222,8 @@ abbrev mutual
   draft_of hosts at depth n (string s) = Err (Shape at)
   draft_of hosts at depth n (array ds) = Err (Shape at)
 
-  -- the Exercise in the first member `exercise` of an object at the place `at`, with all below it, and the count after it
+  -- the Exercise in the first member `exercise` of an object at the place `at`, with all below it, and the count after it; Shape where the object has
+  -- no such member
   pub exercise_member : List Host → Place → ℕ → ℕ → Members → Result (Drafts × ℕ) WalkFault
   exercise_member hosts at depth n no_members = Err (Shape at)
   exercise_member hosts at depth n (member k d ms) =
@@ -240,7 +244,8 @@ abbrev mutual
   node_of hosts at depth n (string s) = Err (Shape at)
   node_of hosts at depth n (array ds) = Err (Shape at)
 
-  -- the drafts in the first member `children` of a drafted Exercise that stands at `depth`, and so one deeper, and the count after them
+  -- the drafts in the first member `children` of a drafted Exercise that stands at `depth`, which stand one deeper, and the count after them; Shape
+  -- where it has no such member
   pub children_member : List Host → Place → ℕ → ℕ → Members → Result (Drafts × ℕ) WalkFault
   children_member hosts at depth n no_members = Err (Shape at)
   children_member hosts at depth n (member k d ms) =
@@ -249,8 +254,8 @@ abbrev mutual
       (tree_of hosts (at_member at (codes "children")) (depth + 1) n d)
       (children_member hosts at depth n ms)
 
-  -- the drafts of a list, all at `depth`, with all below them, and the count after them: the list's length is counted, and the limit tried, before
-  -- its items are read
+  -- the drafts of a list, all at `depth`, with all below them, and the count after them: Shape where it is no list, Limit where the count with its
+  -- length is too great, which is tried before its items are read
   pub tree_of : List Host → Place → ℕ → ℕ → Data → Result (Drafts × ℕ) WalkFault
   tree_of hosts at depth n (array ds) =
       within_limit at DRAFTS (n + item_count ds)
@@ -261,8 +266,8 @@ abbrev mutual
   tree_of hosts at depth n (string s) = Err (Shape at)
   tree_of hosts at depth n (object ms) = Err (Shape at)
 
-  -- Reads the items of a list of drafts, of which the first is item i. `before` has the drafts before them and the count so far, and the result has
-  -- both with these.
+  -- Reads the items of a list of drafts, of which the first here is item i. `before` has the drafts of the items before them and the count so far, and
+  -- the result has both with the drafts that are read here.
   pub drafts_from : List Host → Place → ℕ → ℕ → Drafts × ℕ → Items → Result (Drafts × ℕ) WalkFault
   drafts_from hosts at depth i before no_items = Ok before
   drafts_from hosts at depth i before (item d ds) =

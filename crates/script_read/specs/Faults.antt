@@ -16,8 +16,8 @@ fault_name (Limit path which found) = codes "Limit"
 fault_name (Repeated path) = codes "Repeated"
 fault_name Memory = codes "Memory"
 
--- the place of a fault in the script, as a JSON pointer; None of bytes that are no JSON, of want of memory, and of a fault of the packages, whose
--- place is told with it
+-- the place of a fault in the script, as a JSON pointer; None of bytes that are no JSON, of want of memory, and of a fault of the packages, which says
+-- its place among these itself
 abbrev pub fault_path : ScriptFault → Option (List ℕ)
 fault_path NotJson = None
 fault_path (Shape path) = Some path
@@ -38,7 +38,7 @@ script_fault (walk.Limit path which found) = Limit path which found
 script_fault (walk.Repeated path) = Repeated path
 script_fault walk.Memory = Memory
 
--- the result of a walk through JSON, with its fault as the fault of a script that it is
+-- the result of a walk through JSON, with an Err as the fault of a script that it is, so that it can stand beside faults of the packages
 abbrev pub from_walk : {A : Type 0} → Result A WalkFault → Result A ScriptFault
 from_walk (Ok a) = Ok a
 from_walk (Err e) = Err (script_fault e)

@@ -1,5 +1,6 @@
 -- The participants, the times, and what each participant has vetted. `at` is the place of the JSON value `d` that is read; where a definition takes no
--- place, `d` is the whole script. A fault Shape says that a value has another form than it should or that a member is absent.
+-- place, `d` is the whole script. An Err is the first fault: Shape says that a value has another form than it should or that a member is absent,
+-- NotInteger that a number isn't whole, Limit that a count or a number is outside its limit.
 use Rattle.std.specs.Prelude.{ℕ, ◌+◌, Bool, ◌||◌, not, List, [], ◌∷◌, ◌++◌, map, Option, Some, None, slice_get, Result, Ok, codes}
 use Rattle.std.specs.List.{list_any}
 use Rattle.serde_json.specs.Data.{Data, Items}
@@ -24,8 +25,8 @@ use Rattle.json_walk.specs.declared.walk_fault.WalkFault.TheVariants.{Shape, Rep
 abbrev pub is_participant : List Host → List ℕ → Bool
 is_participant hosts name = list_any (λ (h : Host). same_name h.name name) hosts
 
--- One step of a walk through the parties of a participant: puts the name at index i behind `before`, its parties so far. Repeated where it stands
--- there or one of `hosts`, the participants before, confirms for it.
+-- One step of a walk through the parties of a participant, a list at the place `at`: puts the name `d` at index i behind `before`, its parties so far.
+-- Repeated where the name is among these or one of `hosts`, the participants before, confirms for it.
 unfoldable pub new_party_step : List Host → Place → ℕ → List (List ℕ) → Data → Result (List (List ℕ)) WalkFault
 new_party_step hosts at i before d = do
   name ← name_of (at_item at i) d
@@ -52,8 +53,8 @@ new_name_in hosts at d = do
 unfoldable pub has_host_members : Data → Bool
 has_host_members d = has_members (codes "name" ∷ codes "parties" ∷ []) (codes "observing" ∷ codes "vetted" ∷ []) d
 
--- Puts the participant that `d` spells behind those in `before`, beside whom stands for how many parties they confirm; the result has both with it.
--- What it has vetted isn't read here, and what it observes is only tried to be names, since a later participant may be the one that confirms.
+-- `before` has the participants before and for how many parties they confirm, and the result has both with the participant that `d` spells. What it has
+-- vetted isn't read here, and what it observes is only tried to be names, since a later participant may confirm for a party that it names.
 unfoldable pub host_of : List Host × ℕ → Place → Data → Result (List Host × ℕ) WalkFault
 host_of before at d = do
   _ ← check (has_host_members d) (Shape at)
@@ -67,7 +68,8 @@ host_of before at d = do
 abbrev pub host_step : Place → ℕ → List Host × ℕ → Data → Result (List Host × ℕ) WalkFault
 host_step at i before d = host_of before (at_item at i) d
 
--- the participants of a list, with nothing yet in what they observe and have vetted; and beside them for how many parties they confirm in all
+-- the participants of a list, with nothing yet in what they observe and have vetted, and the number of parties for which they confirm in all; Shape
+-- where it is no list, Limit where it has none or more than 8, else the first fault of one
 unfoldable pub hosts_of : Place → Data → Result (List Host × ℕ) WalkFault
 hosts_of at d = do
   items ← few_items_of at PARTICIPANTS d
@@ -129,7 +131,7 @@ params_of d = do
 abbrev pub is_package : List PackageForm → List ℕ → Bool
 is_package packages name = list_any (λ (p : PackageForm). same_name p.name name) packages
 
--- the names of the packages, in order
+-- the names of the packages, in order, which a participant has vetted whose member `vetted` is absent
 abbrev pub package_names : List PackageForm → List (List ℕ)
 package_names packages = map (λ (p : PackageForm). p.name) packages
 
@@ -150,8 +152,8 @@ vetted_if packages at (Some d) = list_of (package_name_of packages) at d
 unfoldable pub vetted_in : List PackageForm → Place → Data → Result (List (List ℕ)) WalkFault
 vetted_in packages at d = vetted_if packages (at_member at (codes "vetted")) (get (codes "vetted") d)
 
--- Puts a participant, with the names of packages that it has vetted, behind `before`. None is of a value without a participant, which never comes,
--- and leaves `before` as it is.
+-- Puts a participant, with the names of packages that it has vetted, behind `before`. None stands for an item without a participant, which doesn't come
+-- where a script is read; it leaves `before` as it is.
 abbrev pub with_vetted : List Host → Option Host → List (List ℕ) → List Host
 with_vetted before None vetted = before
 with_vetted before (Some h) vetted = before ++ record { name = h.name; parties = h.parties; observing = h.observing; vetted = vetted } ∷ []
@@ -163,7 +165,8 @@ vetting_step packages hosts at i before d = do
   vetted ← vetted_in packages (at_item at i) d
   Ok (with_vetted before (slice_get hosts i) vetted)
 
--- the participants `hosts` with what they have vetted, in a walk of its own once the packages are checked
+-- the participants `hosts` with what they have vetted, as the script `d` says it, read in a walk of its own once the packages are checked; Unknown
+-- where a name is that of none of `packages`
 unfoldable pub vetting_in : List PackageForm → List Host → Data → Result (List Host) WalkFault
 vetting_in packages hosts d = do
   m ← participants_of d

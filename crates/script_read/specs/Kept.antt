@@ -32,8 +32,8 @@ pub record AreRules (hosts : List Host) (rules : List Rule) : Type 0 where
   pub each : All (IsRule hosts) rules
   pub named : AreNamed rules
 
--- The command's id is free for clients: it isn't the name of a rule of this participant with a hyphen and decimal digits behind it. Such ids are kept
--- for what that rule submits.
+-- The command's id is free for clients: it isn't the name of a rule of this participant with a hyphen and decimal digits behind it, as the ids of what
+-- that rule submits are.
 abbrev pub IsOwn : List Rule → (participant : ℕ) → (command : List ℕ) → Type 0
 IsOwn rules participant command = is_rule_command rules participant command ≡ false
 
@@ -54,7 +54,8 @@ pub record IsRawEnvelope (hosts : List Host) (e : RawEnvelope) : Type 0 where
   pub to : e.to < length hosts
   pub few : length e.bytes ≤ MOST_RAW_BYTES
 
--- The raw request names participants of the topology, its command is kept for no rule of its sender, and its bytes are within their limit.
+-- The raw request names participants of the topology alone, its command's id is a name that is kept for no rule of its sender, and the mediator's bytes
+-- and each envelope's are at most 65,536.
 pub record IsRaw (hosts : List Host) (rules : List Rule) (r : RawRequest) : Type 0 where
   pub participant : r.participant < length hosts
   pub command : IsName r.command

@@ -1,5 +1,5 @@
--- What the participants observe: parties for which another participant confirms. `hosts` are all participants, `own` the parties for which the one
--- that is read confirms, `at` is the place of the JSON value `d` that is read.
+-- What the participants observe: parties for which another participant confirms. `hosts` are all participants, `own` the parties for which the one that
+-- is read confirms, `at` is the place of the JSON value `d` that is read. An Err is the first fault: Shape says that a value is no list or no name.
 use Rattle.std.specs.Prelude.{ℕ, ◌||◌, not, List, [], ◌∷◌, ◌++◌, Option, Some, None, slice_get, Result, Ok, codes}
 use Rattle.serde_json.specs.Data.{Data}
 use Rattle.serde_json.specs.Find.{get}
@@ -26,8 +26,8 @@ observing_names_in at d = observing_names_if (at_member at (codes "observing")) 
 
 -- ---- parties, once all participants are known
 
--- Puts the party that a value names behind `before`, those that the participant observes so far. Unknown where nobody confirms for it, Repeated
--- where it is one of the participant's own or stands in `before`.
+-- Puts the party that the value `d` names behind `before`, the parties that the participant observes so far. Unknown where nobody confirms for it,
+-- Repeated where the participant itself does or it stands in `before`.
 unfoldable pub observed_party : List Host → List (List ℕ) → Place → List (List ℕ) → Data → Result (List (List ℕ)) WalkFault
 observed_party hosts own at before d = do
   name ← name_of at d
@@ -39,7 +39,8 @@ observed_party hosts own at before d = do
 abbrev pub observed_step : List Host → List (List ℕ) → Place → ℕ → List (List ℕ) → Data → Result (List (List ℕ)) WalkFault
 observed_step hosts own at i before d = observed_party hosts own (at_item at i) before d
 
--- the parties that a list of any length names, in its order, or the first fault
+-- the parties that a list of any length names, in its order, or the first fault: Shape where it is no list, else that of an item, as `observed_party`
+-- has it
 unfoldable pub observed_of : List Host → List (List ℕ) → Place → Data → Result (List (List ℕ)) WalkFault
 observed_of hosts own at d = do
   items ← items_of at d
@@ -56,14 +57,15 @@ observed_in hosts own at d = observed_if hosts own (at_member at (codes "observi
 
 -- ---- participants
 
--- the participant `host` with what it observes, as the value `d` tells that; what it has vetted is left empty
+-- the participant `host` with what it observes, as its JSON value `d` at the place `at` says it; what it has vetted is left empty, since that is read
+-- later
 unfoldable pub observing_host : List Host → Host → Place → Data → Result Host WalkFault
 observing_host hosts host at d = do
   observed ← observed_in hosts host.parties at d
   Ok (record { name = host.name; parties = host.parties; observing = set_of observed; vetted = [] })
 
--- Puts a participant with what it observes behind `before`. None is of a value without a participant, which never comes, and leaves `before` as it
--- is.
+-- Puts a participant, with what it observes as its JSON value `d` at the place `at` says it, behind `before`. None stands for a value without a
+-- participant, which doesn't come where a script is read; it leaves `before` as it is.
 abbrev pub with_observing : List Host → Place → List Host → Option Host → Data → Result (List Host) WalkFault
 with_observing hosts at before None d = Ok before
 with_observing hosts at before (Some host) d = observing_host hosts host at d >>= (λ one. Ok (before ++ one ∷ []))

@@ -17,7 +17,7 @@ use Rattle.script_read.specs.Accepted.{IsShort}
 -- ---- expressions
 
 abbrev mutual
-  -- how deep an expression is: 1 for a value or a bound name, and else one more than its deepest operand
+  -- how deep an expression is: 1 for a value, a bound name or the empty set, and else one more than its deepest operand
   pub expr_depth : ExprForm → ℕ
   expr_depth (Literal v) = 1
   expr_depth (Var x) = 1
@@ -42,7 +42,7 @@ abbrev mutual
   exprs_depth (MoreExprs e es) = max (expr_depth e) (exprs_depth es)
 
 abbrev mutual
-  -- the values that stand in an expression, in order
+  -- the values that stand in an expression, in order, of which `IsSmallExpr` tries the texts
   pub literals_in : ExprForm → List Value
   literals_in (Literal v) = v ∷ []
   literals_in (Var x) = []
@@ -88,7 +88,7 @@ abbrev mutual
   stmts_size NoStmts = 0
   stmts_size (MoreStmts s ss) = stmt_size s + stmts_size ss
 
--- expressions as a list of the kit
+-- expressions as a list of the kit, in their order
 abbrev pub listed : ExprForms → List ExprForm
 listed NoExprs = []
 listed (MoreExprs e es) = e ∷ listed es
@@ -137,7 +137,7 @@ pub record AreSmall (packages : Packages) : Type 0 where
   pub few_templates : sum_by (λ (p : PackageForm). length p.templates) packages ≤ MOST_TEMPLATES
   pub templates : All (λ (p : PackageForm). All IsSmallTemplate p.templates) packages
 
--- The packages are some `given` ones within the limits, with what is built in, and name no party but those for which somebody of `hosts` confirms.
+-- The packages are what is built in with packages `given` that keep the limits, and they name only parties for which one of `hosts` confirms.
 pub record AreAccepted (hosts : List Host) (packages : Packages) : Type 0 where
   pub given : Packages
   pub built_in : packages ≡ checked_packages given

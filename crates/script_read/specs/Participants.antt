@@ -1,4 +1,5 @@
--- Names of participants, which are read as indices in the topology `hosts`. `at` is the place of the JSON value `d` that is read.
+-- Names of participants, which are read as indices in the topology `hosts`. `at` is the place of the JSON value `d` that is read. An Err is the first
+-- fault: Shape says that a value has another form than it should or that a member is absent, Unknown that no participant has a name.
 use Rattle.std.specs.Prelude.{ℕ, suc, List, [], ◌∷◌, Option, Some, None, option_map, if◌then◌else◌, Result, ok_or, codes}
 use Rattle.serde_json.specs.Data.{Data}
 use Rattle.ledger_terms.specs.Parties.{same_name}
@@ -26,6 +27,7 @@ participant_member hosts at k d = do
   m ← member_of at k d
   participant_of hosts (at_member at k) m
 
--- the participant whose name stands in the member `participant` of an object
+-- the participant whose name stands in the member `participant` of an object; Shape where that member is absent or no name, Unknown where no
+-- participant has it
 unfoldable pub participant_in : List Host → Place → Data → Result ℕ WalkFault
 participant_in hosts at d = participant_member hosts at (codes "participant") d

@@ -1,5 +1,6 @@
--- Raw requests, as a client hands them in. `hosts` is the topology, `rules` are the rules of the script, `at` is the place of the JSON value `d` that is
--- read. A fault Shape says that a value has another form than it should or that a member is absent. Participants are indices in the topology.
+-- Raw requests, as a client hands them in. `hosts` is the topology, `rules` are the rules of the script, `at` is the place of the JSON value `d` that
+-- is read. Participants are indices in the topology. An Err is the first fault: Shape says that a value has another form than it should or that a
+-- member is absent, Unknown that no participant has a name, Limit that there are too many bytes or requests.
 use Rattle.std.specs.Prelude.{ℕ, Bool, List, [], ◌∷◌, length, Option, Some, None, Result, Ok, ok_or, codes}
 use Rattle.std.specs.Result.{result_ok}
 use Rattle.hex.specs.Hex.{decode_of}
@@ -25,7 +26,7 @@ use Rattle.trigger_rules.specs.declared.rule.Rule.{Rule}
 abbrev pub bytes_named : List ℕ → Option (List ℕ)
 bytes_named s = result_ok (decode_of s)
 
--- the bytes that a text spells: Shape where it is no text of pairs of hexadecimal digits, Limit where there are too many bytes
+-- the bytes that a text spells: Shape where it is no text of pairs of hexadecimal digits, Limit where there are more than 65,536 bytes
 unfoldable pub bytes_of : Place → Data → Result (List ℕ) WalkFault
 bytes_of at d = do
   s ← ok_or (as_str d) (Shape at)
@@ -35,7 +36,8 @@ bytes_of at d = do
 
 -- ---- envelopes
 
--- the envelope that a list of a participant's name and of bytes spells
+-- the envelope that a list of two items spells: the name of the participant to whom it is addressed, and its bytes; Shape where the list has more or
+-- fewer
 unfoldable pub envelope_of : List Host → Place → Data → Result RawEnvelope WalkFault
 envelope_of hosts at d = do
   items ← items_of at d
@@ -58,7 +60,7 @@ confirming_in hosts at d = do
   m ← member_of at (codes "confirming") d
   list_of (participant_of hosts) (at_member at (codes "confirming")) m
 
--- the mediator's bytes, in the member `mediator` of a raw request
+-- the bytes for the mediator, in the member `mediator` of a raw request
 unfoldable pub mediator_in : Place → Data → Result (List ℕ) WalkFault
 mediator_in at d = do
   m ← member_of at (codes "mediator") d
@@ -69,7 +71,8 @@ unfoldable pub has_raw_members : Data → Bool
 has_raw_members d =
     has_members (codes "participant" ∷ codes "command" ∷ codes "confirming" ∷ codes "mediator" ∷ codes "envelopes" ∷ []) [] d
 
--- the raw request that a value spells, or the first fault; Repeated where its command's id is kept for a rule of its participant
+-- the raw request that a value spells, or the first fault; Repeated where its command's id is the name of a rule of its participant with a hyphen and
+-- digits behind it
 unfoldable pub raw_of : List Host → List Rule → Place → Data → Result RawRequest WalkFault
 raw_of hosts rules at d = do
   _ ← check (has_raw_members d) (Shape at)
@@ -80,7 +83,7 @@ raw_of hosts rules at d = do
   envelopes ← envelopes_in hosts at d
   Ok (record { participant = participant; command = command; confirming = confirming; mediator = mediator; envelopes = envelopes })
 
--- the raw requests of a list at the place `at`, in order; None, where the member is absent, gives none, and too many are Limit
+-- the raw requests of a list at the place `at`, in order; None, where the member is absent, gives none, and more than 64 are Limit
 abbrev pub raws_if : List Host → List Rule → Place → Option Data → Result (List RawRequest) WalkFault
 raws_if hosts rules at None = Ok []
 raws_if hosts rules at (Some d) = few_of (raw_of hosts rules) at RAWS d

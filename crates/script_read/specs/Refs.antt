@@ -83,12 +83,14 @@ abbrev pub behind_mark : List ℕ → Option (List ℕ)
 behind_mark [] = None
 behind_mark (b ∷ bs) = if b == 35 then Some bs else None
 
--- the reference of the text `s`: the label in the text behind its `#`, and with None, where it has no `#`, the id that `s` spells
+-- The reference that the text `s` spells, by what `behind_mark` gives of it: Some is the text behind a `#`, which has to be a label as `label_of` reads
+-- it; with None, where there is no `#`, `s` has to be an id of 64 hexadecimal digits, else Shape.
 abbrev pub reference_by : List Host → Place → List ℕ → Option (List ℕ) → Result ContractRef WalkFault
 reference_by hosts at s (Some label) = label_of hosts at label >>= (λ l. Ok (reference.Label l))
 reference_by hosts at s None = ok_or (hash_named s) (Shape at) >>= (λ h. Ok (reference.Id h))
 
--- the reference that the value `d` spells, a label behind a `#` or an id of 64 hexadecimal digits
+-- the reference that the value `d` spells, a label behind a `#` or an id of 64 hexadecimal digits; Shape where it is neither, Limit or Unknown of a
+-- label as `label_of` has them
 unfoldable pub reference_of : List Host → Place → Data → Result ContractRef WalkFault
 reference_of hosts at d = do
   s ← ok_or (as_str d) (Shape at)

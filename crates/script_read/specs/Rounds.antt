@@ -1,5 +1,7 @@
--- Rounds and their submissions. `hosts` is the topology, `rules` are the rules of the script, `at` is the place of the JSON value `d` that is read. A
--- fault Shape says that a value has another form than it should or that a member is absent. Participants are indices in the topology.
+-- Rounds and their submissions. `hosts` is the topology, `rules` are the rules of the script, `at` is the place of the JSON value `d` that is read.
+-- Participants are indices in the topology. An Err is the first fault: Shape says that a value has another form than it should or that a member is
+-- absent, NotInteger that a number isn't whole, Limit that a count or a number is outside its limit, Unknown that a name is that of no party or
+-- participant.
 use Rattle.std.specs.Prelude.{ℕ, ◌+◌, Bool, ◌||◌, List, [], ◌∷◌, Option, Some, None, if◌then◌else◌, Result, Ok, codes}
 use Rattle.serde_json.specs.Data.{Data}
 use Rattle.serde_json.specs.Find.{get}
@@ -43,7 +45,7 @@ time_of at d = do
   time ← integer_of at LEDGER_TIME d
   Ok (Some time)
 
--- the ledger time of a member at the place `at`, in microseconds; where the member is absent there is none
+-- the ledger time of a member at the place `at`, in microseconds; None, where the member is absent, gives None
 abbrev pub time_if : Place → Option Data → Result (Option ℕ) WalkFault
 time_if at None = Ok None
 time_if at (Some d) = time_of at d
@@ -79,7 +81,7 @@ some_seed_of hosts at d = do
   seed ← seed_of_of hosts at d
   Ok (Some seed)
 
--- the seed of a member at the place `at`, which a prepared tree borrows; where the member is absent there is none
+-- the seed of a member at the place `at`, which a prepared tree borrows; None, where the member is absent, gives None
 abbrev pub seed_of_if : List Host → Place → Option Data → Result (Option SeedOf) WalkFault
 seed_of_if hosts at None = Ok None
 seed_of_if hosts at (Some d) = some_seed_of hosts at d
@@ -88,7 +90,7 @@ seed_of_if hosts at (Some d) = some_seed_of hosts at d
 unfoldable pub seed_of_in : List Host → Place → Data → Result (Option SeedOf) WalkFault
 seed_of_in hosts at d = seed_of_if hosts (at_member at (codes "seed_of")) (get (codes "seed_of") d)
 
--- the drafts in the member `prepared` of a submission; Limit where there is no root or too many, as for commands
+-- the drafts in the member `prepared` of a submission; Limit where there is no root or more than 16
 unfoldable pub trees_in : List Host → Place → Data → Result Drafts WalkFault
 trees_in hosts at d = do
   m ← member_of at (codes "prepared") d
@@ -96,7 +98,7 @@ trees_in hosts at d = do
   trees ← tree_of hosts (at_member at (codes "prepared")) 1 0 m
   Ok trees.0
 
--- the prepared tree of a submission, with the seed that it borrows or none
+-- what a submission asks for that has a prepared tree: the tree, with the seed that it borrows or None
 unfoldable pub prepared_in : List Host → Place → Data → Result What WalkFault
 prepared_in hosts at d = do
   trees ← trees_in hosts at d
@@ -111,11 +113,12 @@ are_commands d = has_members (codes "participant" ∷ codes "command" ∷ codes 
 unfoldable pub is_prepared : Data → Bool
 is_prepared d = has_members (codes "participant" ∷ codes "command" ∷ codes "act_as" ∷ codes "prepared" ∷ []) (codes "ledger_time" ∷ codes "seed_of" ∷ []) d
 
--- what a submission asks for, its commands or its prepared tree
+-- what a submission asks for: its commands where it has the members of such a submission, and else its prepared tree
 unfoldable pub what_in : List Host → Place → Data → Result What WalkFault
 what_in hosts at d = if are_commands d then commands_in hosts at d else prepared_in hosts at d
 
--- the submission that a value spells, or the first fault; Repeated where its command's id is kept for a rule of its participant
+-- the submission that a value spells, or the first fault; Repeated where its command's id is the name of a rule of its participant with a hyphen and
+-- digits behind it
 unfoldable pub submission_of : List Host → List Rule → Place → Data → Result Submission WalkFault
 submission_of hosts rules at d = do
   _ ← check (are_commands d || is_prepared d) (Shape at)
@@ -126,7 +129,8 @@ submission_of hosts rules at d = do
   what ← what_in hosts at d
   Ok (record { participant = participant; command = command; act_as = act_as; ledger_time = time; what = what })
 
--- the submissions of a list, in order, and their number with those of the rounds before, which is `before`; Limit where that is too many
+-- the submissions of a list, in order, and `before`, the number of submissions in the rounds before, with their number added; Limit where that sum is
+-- above 2,048
 unfoldable pub submits_of : List Host → List Rule → ℕ → Place → Data → Result (List Submission × ℕ) WalkFault
 submits_of hosts rules before at d = do
   items ← items_of at d
@@ -134,13 +138,14 @@ submits_of hosts rules before at d = do
   submits ← walk_items (item_step (submission_of hosts rules) at) 0 [] items
   Ok (submits, before + item_count items)
 
--- the submissions of a member at the place `at`, and their number with the `before` of the rounds before; None, where the member is absent, gives
--- none
+-- the submissions of a member at the place `at`, and `before`, the number of submissions in the rounds before, with their number added; None, where the
+-- member is absent, gives no submission and `before` itself
 abbrev pub submits_if : List Host → List Rule → ℕ → Place → Option Data → Result (List Submission × ℕ) WalkFault
 submits_if hosts rules before at None = Ok ([], before)
 submits_if hosts rules before at (Some d) = submits_of hosts rules before at d
 
--- the submissions in the member `submits` of a round, none where it is absent, and their number with the `before` of the rounds before
+-- the submissions in the member `submits` of a round, none where it is absent, and `before`, the number of submissions in the rounds before, with their
+-- number added
 unfoldable pub submits_in : List Host → List Rule → ℕ → Place → Data → Result (List Submission × ℕ) WalkFault
 submits_in hosts rules before at d = submits_if hosts rules before (at_member at (codes "submits")) (get (codes "submits") d)
 
@@ -181,7 +186,7 @@ unfoldable pub has_round_members : Data → Bool
 has_round_members d =
     has_members [] (codes "advance" ∷ codes "paused" ∷ codes "hold_verdicts" ∷ codes "submits" ∷ codes "raw" ∷ codes "restart" ∷ []) d
 
--- the round that a value spells, and the number of submissions with those of the rounds before, which is `before`; or the first fault
+-- the round that a value spells, and `before`, the number of submissions in the rounds before, with the number of its own added; or the first fault
 unfoldable pub round_of : List Host → List Rule → ℕ → Place → Data → Result (Round × ℕ) WalkFault
 round_of hosts rules before at d = do
   _ ← check (has_round_members d) (Shape at)
@@ -196,7 +201,8 @@ round_of hosts rules before at d = do
     submits.1,
   )
 
--- the rounds in the member `rounds` of the script `d`, in order
+-- the rounds in the member `rounds` of the script `d`, in order, or the first fault: Limit where there are more than 2,048 rounds, or more than 2,048
+-- submissions in all
 unfoldable pub rounds_in : List Host → List Rule → Data → Result (List Round) WalkFault
 rounds_in hosts rules d = do
   m ← member_of [] (codes "rounds") d

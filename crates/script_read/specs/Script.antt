@@ -1,4 +1,5 @@
--- Scripts: the script that bytes spell, or its first fault. `d` is the JSON value of the script, but for one package of it in `counted_package`.
+-- Scripts: the script that bytes spell, or its first fault. `hosts` is the topology, and `d` the JSON value of the script, but in `counted_package`
+-- that of one package at the place `at`.
 use Rattle.std.specs.Prelude.{ℕ, ◌+◌, Bool, List, [], ◌∷◌, length, Option, Some, None, Result, Ok, Err, codes}
 use Rattle.serde_json.specs.Data.{Data}
 use Rattle.serde_json.specs.Find.{get}
@@ -24,7 +25,7 @@ use Rattle.script_read.specs.declared.script.Script.{Script}
 
 -- ---- packages
 
--- the package at the place `at`, and how many templates there are with its own, where the packages before it have `before` templates
+-- the package at the place `at`, and `before`, the number of templates in the packages before it, with the number of its own added
 unfoldable pub counted_package : List Host → ℕ → Place → Data → Result (PackageForm × ℕ) WalkFault
 counted_package hosts before at d = do
   one ← package_of hosts before at d
@@ -39,12 +40,12 @@ packages_if hosts at (Some d) = counted_of (counted_package hosts) at PACKAGES d
 unfoldable pub packages_in : List Host → Data → Result (List PackageForm) WalkFault
 packages_in hosts d = packages_if hosts (at_member [] (codes "packages")) (get (codes "packages") d) >>= (λ s. Ok s.0)
 
--- the result of a check of packages, with its fault as the fault Package of a script
+-- the result of a check of packages, with an Err as the fault Package of a script
 abbrev pub as_package : Result (List PackageForm) CheckFault → Result (List PackageForm) ScriptFault
 as_package (Ok packages) = Ok packages
 as_package (Err fault) = Err (Package fault)
 
--- the packages with what is built in, where they pass the check of kinds and names; else the fault Package
+-- the packages with what is built in, where they pass the check of kinds and names (`lang_check`); else the fault Package
 unfoldable pub checked_of : List PackageForm → Result (List PackageForm) ScriptFault
 checked_of packages = as_package (checked_or_fault packages)
 

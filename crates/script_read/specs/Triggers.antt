@@ -1,5 +1,5 @@
 -- The rules of a script: their first fault, or the rules. `hosts` is the topology, `at` the place of the JSON value `d` that is read. Participants are
--- indices in the topology.
+-- indices in the topology. A fault Shape says that a value has another form than it should or that a member is absent.
 use Rattle.std.specs.Prelude.{ℕ, Bool, not, List, [], ◌∷◌, ◌++◌, Option, Some, None, Result, Ok, codes, length}
 use Rattle.std.specs.List.{list_any}
 use Rattle.serde_json.specs.Data.{Data}
@@ -17,7 +17,7 @@ use Rattle.trigger_rules.specs.declared.rule.Rule.{Rule}
 use Rattle.script_read.specs.Participants.{participant_of}
 use Rattle.json_walk.specs.declared.limits.TheConstants.{RULE_NAME_BYTES, RULES}
 
--- whether one of the rules has the name
+-- whether one of the rules has the name, which a new rule then may not have
 abbrev pub is_rule : List Rule → List ℕ → Bool
 is_rule rules name = list_any (λ (rule : Rule). same_name rule.name name) rules
 
@@ -25,7 +25,7 @@ is_rule rules name = list_any (λ (rule : Rule). same_name rule.name name) rules
 unfoldable pub has_rule_members : Data → Bool
 has_rule_members d = has_members (codes "name" ∷ codes "participant" ∷ codes "party" ∷ []) [] d
 
--- the name in the member `name` of a rule: Limit where it is too long, Repeated where one of the rules `before` has it
+-- the name in the member `name` of a rule: Limit where it has more than 20 bytes, Repeated where one of the rules `before` has it
 unfoldable pub rule_name_in : List Rule → Place → Data → Result (List ℕ) WalkFault
 rule_name_in before at d = do
   name ← name_in at (codes "name") d
@@ -45,7 +45,7 @@ rule_party_in hosts at d = do
   m ← member_of at (codes "party") d
   party_of hosts (at_member at (codes "party")) m
 
--- the rules in `before` with the one behind them that a value spells, or the first fault of that
+-- the rules in `before` with the rule that the value `d` spells behind them, or the first fault of that rule
 unfoldable pub rule_of : List Host → List Rule → Place → Data → Result (List Rule) WalkFault
 rule_of hosts before at d = do
   _ ← check (has_rule_members d) (Shape at)
@@ -73,7 +73,8 @@ rules_if hosts at (Some d) = rules_of hosts at d
 unfoldable pub triggers_in : List Host → Data → Result (List Rule) WalkFault
 triggers_in hosts d = rules_if hosts (at_member [] (codes "triggers")) (get (codes "triggers") d)
 
--- the id of a command in the member `command` of a submission or a raw request; Repeated where it is kept for a rule of its participant
+-- the id of a command in the member `command` of a submission or a raw request of `participant`; Repeated where it is the name of a rule of that
+-- participant with a hyphen and digits behind it, as the ids of what rules submit are
 unfoldable pub own_command_in : List Rule → (participant : ℕ) → Place → Data → Result (List ℕ) WalkFault
 own_command_in rules participant at d = do
   command ← name_in at (codes "command") d

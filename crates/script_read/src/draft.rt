@@ -1,4 +1,5 @@
-//! Drafts of actions, but for their children.
+//! Drafts of actions, but for their children. `topology` has the participants and the parties that a text may name; another name is Unknown. `alloc`
+//! gives the memory for what is read; where memory is wanting, also for the place in a fault, the fault is Memory.
 ghost use Rattle.std.specs.Prelude.{◌≡◌};
 ghost use Rattle.serde_json.specs.View.{view};
 ghost use Rattle.ledger_terms.specs.Answers.{Follows, FollowsAs};
@@ -123,8 +124,8 @@ fn fetch_in(
     read_fetch(alloc, found, &at.member("fetch"), topology)
 }
 
-/// The draft that the value at the place `at` spells, one of a Create or a Fetch, which has no children; or the first fault. Participants and
-/// parties have to be those of the topology.
+/// The draft, without children, of the value at the place `at`, which the caller has found to be `{"create": ..}` or `{"fetch": ..}`; or the first
+/// fault. Whatever isn't a Create is read as a Fetch. Participants and parties have to be those of the topology.
 #[tactic(auto, unfolding(crate::specs::Drafts::leaf_of))]
 pub fn read_leaf(
     alloc: Global,

@@ -1,4 +1,5 @@
-//! The participants of a script.
+//! The participants of a script. `alloc` gives the memory for what is read; where memory is wanting, also for the place in a fault, the fault is
+//! Memory.
 ghost use Rattle.std.specs.Prelude.{◌≡◌, ◌≢◌, ◌≤◌, ◌+◌, MatchResult, IfOk, OnOk, Ok, Err, [], length};
 ghost use Rattle.serde_json.specs.View.{view, items_view};
 ghost use Rattle.ledger_terms.specs.Answers.{Follows, FollowsOn, FollowsAs};
@@ -17,14 +18,14 @@ use ledger_terms::{Host, HostList, Name, NameList, PartySet};
 use serde_json::Value;
 use std::alloc::{AllocError, Global};
 
-/// Whether one of the participants has the name.
+/// Whether one of the participants has the name, so that a text may name it and a new participant may not have it.
 pub fn is_participant(hosts: &[Host], name: Name) -> bool
     ensures { result ≡ is_participant hosts.now name }
 {
     hosts.iter().any(|host| host.name == name)
 }
 
-/// Whether `name` is one of the names.
+/// Whether `name` is one of the names, as of the parties of a participant that were read so far.
 pub fn has_name(names: &[Name], name: Name) -> bool
     ensures { result ≡ has_party names.now name }
 {

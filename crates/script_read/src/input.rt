@@ -1,4 +1,6 @@
-//! The inputs of prepared actions: the contracts that they use, known ones or forged ones, whose parts are handed in as they are.
+//! The inputs of prepared actions: the contracts that they use, known ones or forged ones, whose parts are handed in as they are. `topology` has the
+//! participants and the parties that a text may name; another name is Unknown. `alloc` gives the memory for what is read; where memory is wanting, also
+//! for the place in a fault, the fault is Memory.
 ghost use Rattle.std.specs.Prelude.{◌≡◌};
 ghost use Rattle.serde_json.specs.View.{view};
 ghost use Rattle.ledger_terms.specs.Answers.{Follows};
@@ -164,8 +166,8 @@ fn read_input(
     }
 }
 
-/// The input in the member `contract` of the draft that is `value` at the place `at`, or the first fault. Participants and parties have to be those
-/// of the topology.
+/// The input in the member `contract` of the draft that is `value` at the place `at`, a known contract or a forged one, or the first fault.
+/// Participants and parties have to be those of the topology.
 #[tactic(auto, unfolding(crate::specs::Drafts::input_in))]
 pub fn input_in(
     alloc: Global,

@@ -1,4 +1,5 @@
-//! What the participants observe.
+//! What the participants observe. `alloc` gives the memory for what is read; where memory is wanting, also for the place in a fault, the fault is
+//! Memory.
 ghost use Rattle.std.specs.Prelude.{◌≡◌, []};
 ghost use Rattle.serde_json.specs.View.{view, items_view};
 ghost use Rattle.ledger_terms.specs.Answers.{Follows, FollowsOn};
@@ -13,8 +14,8 @@ use ledger_terms::{Host, HostList, NameList, PartySet, Text};
 use serde_json::Value;
 use std::alloc::Global;
 
-/// The names in the member `observing` of the participant that is `value` at the place `at`, none where it is absent. Whether they are those of
-/// parties isn't tried yet.
+/// The names in the member `observing` of the participant that is `value` at the place `at`, none where it is absent; Shape where it is no list of
+/// names. Whether somebody confirms for them isn't tried yet.
 #[tactic(auto, unfolding(crate::specs::Observing::observing_names_in))]
 pub fn observing_names_in(alloc: Global, value: &Value, at: &Place) -> Result<NameList, WalkFault>
     ensures { Follows WalkFault.Memory result (observing_names_in at.now (view value.now)) }
@@ -156,8 +157,8 @@ fn read_observing_items(
     Ok(done)
 }
 
-/// The participants `hosts` with what they observe, read in a second walk through `value`, the list of participants at the place `at`, once all of
-/// them are known. Unknown at a party for which nobody confirms, Repeated at one that the participant has already.
+/// The participants `hosts` with what they observe, read in a second walk through `value`, the list of participants at the place `at`, once all of them
+/// are known. Unknown at a party for which nobody confirms, Repeated at one for which the participant itself confirms or that it has named before.
 #[tactic(auto, unfolding(crate::specs::Observing::observing_of))]
 pub fn read_observing(
     alloc: Global,

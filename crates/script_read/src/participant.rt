@@ -1,4 +1,4 @@
-//! Names of participants.
+//! Names of participants. `alloc` gives the memory for what is read; where memory is wanting, also for the place in a fault, the fault is Memory.
 ghost use Rattle.std.specs.Prelude.{◌≡◌, ◌≤◌, length};
 ghost use Rattle.serde_json.specs.View.{view};
 ghost use Rattle.ledger_terms.specs.Answers.{Follows};
@@ -23,7 +23,8 @@ fn participant_named(hosts: &[Host], name: Name) -> Option<ParticipantId>
     None
 }
 
-/// The participant of the topology whose name the value at the place `at` spells: Shape where it is no name, Unknown where no participant has it.
+/// The participant of the topology whose name the value at the place `at` spells, by its index: Shape where it is no name, Unknown where no participant
+/// has it.
 #[tactic(auto, unfolding(crate::specs::Participants::participant_of))]
 pub fn read_participant(
     alloc: Global,

@@ -1,4 +1,5 @@
-//! Raw requests.
+//! Raw requests. `topology` has the participants and the parties that a text may name; another name is Unknown. `alloc` gives the memory for what is
+//! read; where memory is wanting, also for the place in a fault, the fault is Memory.
 ghost use Rattle.std.specs.Prelude.{◌≡◌, ◌≤◌, length, IfOk};
 ghost use Rattle.serde_json.specs.View.{view};
 ghost use Rattle.ledger_terms.specs.Answers.{Follows};
@@ -153,8 +154,8 @@ fn read_raw(
     })
 }
 
-/// The raw requests in the member `raw` of the round that is `value` at the place `at`, none where it is absent, or the first fault. Participants have
-/// to be of the topology, and no command's id may be one that `rules` keep for its participant.
+/// The raw requests in the member `raw` of the round that is `value` at the place `at`, none where it is absent, or the first fault: Repeated where a
+/// command's id is the name of a rule of its participant, one of `rules`, with a hyphen and digits behind it.
 #[tactic(auto, unfolding(crate::specs::Raws::raws_in))]
 pub fn raws_in(
     alloc: Global,

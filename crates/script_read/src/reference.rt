@@ -1,4 +1,4 @@
-//! References to contracts.
+//! References to contracts. `alloc` gives the memory for what is read; where memory is wanting, also for the place in a fault, the fault is Memory.
 ghost use Rattle.std.specs.Prelude.{◌≡◌, ◌∷◌, IfOk, option_map, []};
 ghost use Rattle.serde_json.specs.View.{view};
 ghost use Rattle.ledger_terms.specs.Answers.{Follows};
@@ -179,8 +179,8 @@ pub fn read_reference(
     read_text(alloc, text, at, topology)
 }
 
-/// The reference to a contract in the member `name` of the object `value` at the place `at`, or the first fault: Shape where that member is absent,
-/// Unknown where no participant of the topology has the name in a label.
+/// The reference to a contract in the member `name` of the object `value` at the place `at`, or the first fault: Shape where that member is absent or
+/// no reference, Limit where a label has too many steps, Unknown where no participant of the topology has its name.
 #[tactic(auto, unfolding(crate::specs::Commands::reference_in))]
 pub fn reference_in(
     alloc: Global,

@@ -1,4 +1,5 @@
-//! The rounds of a script.
+//! The rounds of a script. `topology` has the participants and the parties that a text may name; another name is Unknown. `alloc` gives the memory for
+//! what is read; where memory is wanting, also for the place in a fault, the fault is Memory.
 ghost use Rattle.std.specs.Prelude.{◌≡◌, ◌≤◌, [], length, IfOk, OnOk};
 ghost use Rattle.serde_json.specs.View.{view, items_view};
 ghost use Rattle.ledger_terms.specs.Answers.{Follows};
@@ -160,8 +161,8 @@ fn read_rounds(
     )
 }
 
-/// The rounds of the script that is `value`, in order, or the first fault. `topology` has its participants, and `rules` are its rules: no submission or
-/// raw request may have a command's id that they keep for its participant.
+/// The rounds of the script that is `value`, in order, or the first fault. `topology` has its participants, and `rules` are its rules: a submission or
+/// a raw request whose command's id is the name of a rule of its participant with a hyphen and digits behind it is Repeated.
 #[tactic(auto, unfolding(crate::specs::Rounds::rounds_in))]
 pub fn rounds_in(
     alloc: Global,

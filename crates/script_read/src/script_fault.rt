@@ -57,7 +57,7 @@ impl ScriptFault {
         }
     }
 
-    /// The place of the fault in the script, as a JSON pointer; None for NotJson, Package and Memory, which have none.
+    /// The place of the fault in the script, as a JSON pointer; None for NotJson, Memory and Package, which says its place among the packages itself.
     pub fn path(&self) -> Option<&str>
         ensures { option_map (λ p. p.now) result ≡ fault_path self.now }
     {

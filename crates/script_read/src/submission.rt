@@ -1,4 +1,5 @@
-//! Submissions.
+//! Submissions. `topology` has the participants and the parties that a text may name; another name is Unknown. `alloc` gives the memory for what is
+//! read; where memory is wanting, also for the place in a fault, the fault is Memory.
 ghost use Rattle.std.specs.Prelude.{◌≡◌, ◌≤◌, ◌+◌, [], length, IfOk};
 ghost use Rattle.serde_json.specs.View.{view};
 ghost use Rattle.ledger_terms.specs.Answers.{Follows};
@@ -127,8 +128,9 @@ fn read_submits(
     Ok((submits, count))
 }
 
-/// The submissions in the member `submits` of the round that is `value` at the place `at`, none where it is absent, and how many they are with the
-/// `before` of the rounds before; or the first fault, Limit where that is too many. No command's id may be one that `rules` keep for its participant.
+/// The submissions in the member `submits` of the round that is `value` at the place `at`, none where it is absent, and `before`, the number of
+/// submissions in earlier rounds, with their number added; or the first fault: Limit where that sum is above 2,048, Repeated where a command's id is
+/// one of a rule of `rules` (`own_command_in`).
 #[tactic(auto, unfolding(crate::specs::Rounds::submits_in))]
 pub fn submits_in(
     alloc: Global,

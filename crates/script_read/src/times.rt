@@ -1,4 +1,4 @@
-//! The times of a script.
+//! The times of a script. `alloc` gives the memory for the place in a fault; where it is wanting, the fault is Memory.
 ghost use Rattle.std.specs.Prelude.{◌≡◌};
 ghost use Rattle.serde_json.specs.View.{view};
 ghost use Rattle.ledger_terms.specs.Answers.{Follows};
@@ -50,8 +50,8 @@ fn skew_in(alloc: Global, value: &Value) -> Result<u64, WalkFault>
     wait_in(alloc, value, "skew", SKEW)
 }
 
-/// The three times of the script that is `value`, in microseconds, each with its default where it is absent: Shape where one is no number,
-/// NotInteger where it isn't whole, Limit where it is outside the limit.
+/// The three times of the script that is `value`, in microseconds, a time that is absent with its default (30 seconds for responses and for verdicts,
+/// 60 of skew): Shape where one is no number, NotInteger where it isn't whole, Limit where it is outside the limit.
 #[tactic(auto, unfolding(crate::specs::Hosts::params_of))]
 pub fn read_params(alloc: Global, value: &Value) -> Result<Params, WalkFault>
     ensures { Follows WalkFault.Memory result (params_of (view value.now)) }

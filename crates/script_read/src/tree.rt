@@ -1,4 +1,5 @@
-//! Prepared trees.
+//! Prepared trees. `topology` has the participants and the parties that a text may name; another name is Unknown. `alloc` gives the memory for what is
+//! read; where memory is wanting, also for the place in a fault, the fault is Memory.
 ghost use Rattle.std.specs.Prelude.{◌≡◌, ◌≤◌, ◌+◌, IfOk, OnOk, nat_le};
 ghost use Rattle.serde_json.specs.View.{view, items_view};
 ghost use Rattle.ledger_terms.specs.Answers.{Follows, FollowsAs, check};
@@ -76,8 +77,8 @@ fn read_node(
     Ok((Tree { root, below }, count))
 }
 
-/// The drafts of the list at the place `at`, all at `depth`, 1 for roots, with all below them, and the number of drafts counted so far, these included;
-/// or the first fault. `before` is the number of those that were counted before the list.
+/// The drafts of the list at the place `at`, all at `depth`, 1 for roots, with all below them, and `before` with the number of all these added; or the
+/// first fault. `before` is the number of drafts that were counted before the list: all items of each list that was begun.
 #[cycle(tree)]
 pub fn read_tree(
     alloc: Global,

@@ -1,4 +1,4 @@
-//! The rules of a script.
+//! The rules of a script. `alloc` gives the memory for what is read; where memory is wanting, also for the place in a fault, the fault is Memory.
 ghost use Rattle.std.specs.Prelude.{◌≡◌, ◌≤◌, [], length, IfOk, OnOk};
 ghost use Rattle.serde_json.specs.View.{view, items_view};
 ghost use Rattle.ledger_terms.specs.Answers.{Follows, FollowsOn};
@@ -129,8 +129,8 @@ fn read_rules(
     read_rule_items(alloc, items, at, topology)
 }
 
-/// The rules of the script that is `value`, in order, none where the member `triggers` is absent; or the first fault. Their participants and
-/// parties have to be those of the topology.
+/// The rules of the script that is `value`, in order, none where the member `triggers` is absent; or the first fault. Their participants and parties
+/// have to be those of the topology, else Unknown; two of one name are Repeated.
 #[tactic(auto, unfolding(crate::specs::Triggers::triggers_in))]
 pub fn triggers_in(alloc: Global, value: &Value, topology: &Topology) -> Result<RuleList, WalkFault>
     requires { length topology.now.hosts ≤ 256 }
@@ -145,8 +145,9 @@ pub fn triggers_in(alloc: Global, value: &Value, topology: &Topology) -> Result<
     }
 }
 
-/// The id of a command in the member `command` of `value`, a submission or a raw request of `participant` at the place `at`. It is Repeated where
-/// that id is kept for one of the participant's `rules`, Shape where it is absent or no name.
+/// The id of a command in the member `command` of `value`, a submission or a raw request of `participant` at the place `at`. It is Shape where it is
+/// absent or no name, Repeated where it is the name of a rule of that participant with a hyphen and digits behind it, as the ids of what rules submit
+/// are.
 #[tactic(auto, unfolding(crate::specs::Triggers::own_command_in))]
 pub fn own_command_in(
     value: &Value,

@@ -1,4 +1,5 @@
-//! What the participants have vetted.
+//! What the participants have vetted. `alloc` gives the memory for what is read; where memory is wanting, also for the place in a fault, the fault is
+//! Memory.
 ghost use Rattle.std.specs.Prelude.{◌≡◌, [], IfOk, OnOk, slice_get};
 ghost use Rattle.serde_json.specs.View.{view, items_view};
 ghost use Rattle.ledger_terms.specs.Answers.{Follows};
@@ -104,8 +105,8 @@ fn read_vetting_items(
     Ok(done)
 }
 
-/// The participants `hosts` with the names of the packages that they have vetted, all packages where the member is absent. `value` is the whole
-/// script. Unknown where a name is that of no package.
+/// The participants `hosts` with the names of the packages that they have vetted, all of `packages` where the member `vetted` is absent. `value` is the
+/// whole script. Unknown where a name is that of no package.
 #[tactic(auto, unfolding(crate::specs::Hosts::vetting_in))]
 pub fn vetting_in(
     alloc: Global,

@@ -1,4 +1,5 @@
-//! What a submission asks for.
+//! What a submission asks for. `topology` has the participants and the parties that a text may name; another name is Unknown. `alloc` gives the memory
+//! for what is read; where memory is wanting, also for the place in a fault, the fault is Memory.
 ghost use Rattle.std.specs.Prelude.{◌≡◌};
 ghost use Rattle.serde_json.specs.View.{view};
 ghost use Rattle.ledger_terms.specs.Answers.{Follows};

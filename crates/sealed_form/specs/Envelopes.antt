@@ -24,7 +24,8 @@ views_down [] (Root view subviews others) = []
 views_down (zero ∷ path) (Root view subviews others) = view ∷ views_down path subviews
 views_down (suc k ∷ path) (Root view subviews others) = views_down (k ∷ path) others
 
--- an informee of the view at a path, or of a view above it, is hosted
+-- one of the views on the way down this path, be it the one at its end, has a hosted informee; `hosts` tells which parties are hosted. Where the path
+-- leads beyond the views, those that are there count
 abbrev pub sees_at : (hosts : List ℕ → Bool) → Path → Forest SplitView → Bool
 sees_at hosts path views = list_any (is_sight hosts) (views_down path views)
 

@@ -32,7 +32,7 @@ is_hash hash = nat_eq (length hash) 32
 abbrev pub is_short_text : List ℕ → Bool
 is_short_text text = nat_le (length text) MOST_TEXT_BYTES && is_utf8 text
 
--- each name stands below all that follow it
+-- each name is less than all that follow it, by their bytes
 abbrev pub is_rising : List (List ℕ) → Bool
 is_rising [] = true
 is_rising (a ∷ more) = list_all (name_below a) more && is_rising more

@@ -49,7 +49,8 @@ roles_by packages = roles_of (the_language packages)
 abbrev pub views_by : Packages → Transaction → Forest SplitView
 views_by packages t = split (roles_by packages) t.roots
 
--- A transaction with its views, as the code gives them where it is split. Nothing that is asked of it depends on the seed, which isn't told.
+-- A transaction with its views, as the code gives them where it is split, but with an empty seed: what is asked of it here (`AreInRange`, `IsSmall`)
+-- doesn't depend on the seed.
 abbrev pub split_as : Transaction → Forest SplitView → Views
 split_as t views = record { act_as = t.requesters; ledger_time = t.ledger_time; seed = []; roots = views }
 
@@ -106,8 +107,8 @@ envelope_to p (envelope ∷ rest) = if nat_eq envelope.to p then Some envelope.b
 
 -- ---- sealed requests
 
--- What can be sealed: each action has roles, its informees and the parties that it names are those of the topology, the sender confirms for the
--- requesters, and all that is in the trees is in the range of the formats and has room in them.
+-- What participant `sender` can seal: the whole's sender is its name, each action has roles, the informees and the parties that the actions name are
+-- parties of the topology, it confirms for the requesters, and all that is in the trees is in the range of the formats and has room in them.
 pub record CanBeSealed (topology : Topology) (packages : Packages) (sender : ℕ) (whole : Whole) : Type 0 where
   pub sender_is : is_host_named topology.hosts sender whole.sender ≡ true
   pub has_roles : (a : Act) → Contains (acts whole.transaction.roots) a → (the_language packages).has_roles a.action ≡ true

@@ -13,8 +13,8 @@ use Rattle.blind_tree.specs.Blind.{is_host_named, salts_of}
 use Rattle.sealed_form.specs.SealedForm.{Whole}
 use Rattle.sealed_form.specs.Within.{is_hosted}
 
--- What a participant submits names only parties of the topology: those of its commands or drafts (`handed_in`), of the packages and of the known
--- contracts are such; and the sender has this name and confirms for the requesters (`act_as`).
+-- What a participant submits names only parties of the topology: in its commands or drafts, whose parties are `handed_in`, in the packages and in the
+-- known contracts. Participant `sender` has this name and confirms for the requesters, `act_as`.
 pub record IsSubmittedWithin (topology : Topology) (packages : Packages) (known : List Known) (sender : ℕ) (name : List ℕ) (act_as handed_in : PartyNames)
     : Type 0 where
   pub sender_is : is_host_named topology.hosts sender name ≡ true

@@ -42,13 +42,13 @@ ghost use Rattle.sealed_form.specs.SealedForm.{CanBeSealed, IsSealedForm, Whole,
 ghost use Rattle.sealed_form.specs.SealedForm.{views_by};
 ghost use Rattle.sealed_form.specs.SealedTest.{can_be_sealed};
 
-/// The test of what can be sealed is true exactly of what can be sealed.
+/// The test of what can be sealed, `can_be_sealed`, is true exactly of what can be sealed (`CanBeSealed`).
 pub fn what_can_be_sealed_is_decided()
     ensures { (topology : Topology) (packages : Packages) (sender : ℕ) (whole : Whole)
         → Decides (can_be_sealed topology packages sender whole) (CanBeSealed topology packages sender whole) }
 {}
 
-/// The tree that is made for a participant shows the contents of exactly the views that it sees.
+/// The tree that is made for a participant of a transaction that can be sealed shows the contents of exactly the views that the participant sees.
 pub fn trees_show_the_contents_of_what_is_seen()
     ensures { (topology : Topology) (packages : Packages) (sender : ℕ) (whole : Whole) (p : ℕ)
         → CanBeSealed topology packages sender whole
@@ -56,8 +56,8 @@ pub fn trees_show_the_contents_of_what_is_seen()
         (hosts_at topology.hosts p) (whole.transaction).roots }
 {}
 
-/// The envelope of a sealed request to a participant shows the contents of exactly those views of which the participant hosts an
-/// informee, or an informee of a view above. Of every other view it holds at most a hash of them. Who sees a view gets an envelope.
+/// Each envelope of a sealed request can be read, and it shows the contents of exactly those views of which its participant hosts an informee, or an
+/// informee of a view above. A participant to which there is no envelope sees no view.
 pub fn envelopes_show_the_contents_of_what_is_seen()
     ensures read { (topology : Topology) (packages : Packages) (request : Request) (sealed : IsSealedForm topology packages request) (p : ℕ) (bytes : List ℕ)
         → envelope_to p request.envelopes ≡ Some bytes → IsSome (tree_in bytes) }
@@ -79,7 +79,7 @@ pub fn requests_made_are_sealed()
         → IsSealedForm topology packages request }
 {}
 
-/// The request of a transaction that can be sealed and keeps the limits is sealed.
+/// The request of a transaction that can be sealed and keeps the limits of actions (`KeepLimits`) is sealed: its bytes aren't too long.
 pub fn requests_within_limits_are_sealed()
     ensures { (topology : Topology) (packages : Packages) (sender : ℕ) (command : List ℕ) (whole : Whole)
         → CanBeSealed topology packages sender whole
@@ -113,14 +113,14 @@ pub fn what_is_split_has_roles()
         → has_roles packages a.action ≡ true }
 {}
 
-/// A wanted transaction keeps the limits under which its trees can be made and written.
+/// The transaction that commands want (`IsWanted`) keeps the limits under which its trees can be made and written (`KeepLimits`).
 pub fn wanted_transactions_keep_the_limits_of_trees()
     ensures { (packages : Packages) (known : List Known) (seed : List ℕ) (act_as : PartyNames) (commands : List Command) (forest : Actions)
         → IsWanted packages known seed act_as commands forest
         → KeepLimits forest }
 {}
 
-/// What a prepared tree is filled to keeps the limits under which trees can be made and written.
+/// What a prepared tree is filled to (`IsFilled`) keeps the limits under which trees can be made and written (`KeepLimits`).
 pub fn filled_trees_keep_the_limits_of_trees()
     ensures { (known : List Known) (seed : List ℕ) (drafts : Drafts) (forest : Actions) → IsFilled known seed drafts forest → KeepLimits forest }
 {}

@@ -18,8 +18,8 @@ ghost use Rattle.sealed_form.specs.Submission.{IsSubmittedWithin, whole_with_see
 use blind_tree::are_spellable;
 use view_split::Views;
 
-/// Whether the formats have room for a transaction that is split. They have room for each that is interpreted or filled of what is
-/// submitted within a valid topology, and such a transaction can be sealed.
+/// Whether the formats have room for a transaction that is split into these views. They have room for each that is interpreted or filled of what is
+/// submitted within a valid topology (`IsSubmittedWithin`), and such a transaction can be sealed (`CanBeSealed`).
 pub fn is_sealable(views: &Views) -> bool
     ensures exact { IsTrue result ↔ AreSpellable views.now }
     ensures wanted { (topology : Topology) (packages : Packages) (known : List Known) (commands : List Command) (tx : Tx) (sender : ℕ) (name : List ℕ)

@@ -27,7 +27,7 @@ abbrev pub RisesBetween : (low : ℕ) → List ℕ → (high : ℕ) → Type 0
 RisesBetween low [] high = low ≤ high
 RisesBetween low (k ∷ places) high = (low ≤ k) × RisesBetween (suc k) places high
 
--- whether the first of the places passes the test; false of no places
+-- whether the first of the places passes the test; false of no places. The sequencer asks so whether its first open request is past its decision time.
 abbrev pub begins_with : (ℕ → Bool) → List ℕ → Bool
 begins_with test [] = false
 begins_with test (k ∷ places) = test k
@@ -37,7 +37,8 @@ abbrev pub unless_front : Bool → (kept fewer : List ℕ) → List ℕ
 unless_front true kept fewer = fewer
 unless_front false kept fewer = kept
 
--- the places without those at the front that pass the test: from the first one on that doesn't pass it
+-- The places without those at the front that pass the test: from the first one on that doesn't pass it. So the sequencer drops the open requests that
+-- are past their decision times, which rise with the places.
 abbrev pub after_front : (ℕ → Bool) → List ℕ → List ℕ
 after_front test [] = []
 after_front test (k ∷ places) = unless_front (test k) (k ∷ places) (after_front test places)

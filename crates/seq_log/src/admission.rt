@@ -15,7 +15,7 @@ pub enum Admission {
     Refused(AppendFault),
 }
 
-/// The admission of a response or a verdict: refused with this fault, and taken where there is none.
+/// The admission of a response or a verdict: refused with this fault, and taken, without an outline, where the fault is None.
 pub fn taken_unless(fault: Option<AppendFault>) -> Admission
     ensures refusal { refusal_of result ≡ fault }
     ensures response { (response : ResponseValue) → IsAdmitted (Response response) result }

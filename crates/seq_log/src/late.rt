@@ -22,7 +22,7 @@ fn entry_time(slips: &Vec<Slip<'_>>, place: u64) -> u64
 }
 
 /// The fault TooLate, where a message on the request at place `request` would come after that request's decision time; None where it would come in
-/// time. `slips` are those of the log's entries, and `last` is the time of its last one, which the next one follows by a microsecond.
+/// time. `slips` are those of the log's entries; where none stands at the place, its time counts as 0. `last` is the time of the log's last entry.
 pub fn if_late(
     slips: &Vec<Slip<'_>>,
     params: &Params,
@@ -43,7 +43,8 @@ pub fn if_late(
     }
 }
 
-/// Whether the decision time of the request at `place` lies before `time`. `slips` are those of the log's entries, and have the request's time.
+/// Whether the decision time of the request at `place` lies before `time`. `slips` are those of the log's entries, and have the request's time; where
+/// none stands at the place, its time counts as 0.
 pub fn is_past(slips: &Vec<Slip<'_>>, params: &Params, place: u64, time: u64) -> bool
     ensures { (t : LogPrefix) → Holds t slips.now.items → result ≡ nat_lt (decision_time_of params.now t.list place) time }
 {
@@ -53,7 +54,8 @@ pub fn is_past(slips: &Vec<Slip<'_>>, params: &Params, place: u64, time: u64) ->
     decision < time
 }
 
-/// The fault LogFull, where a request needs more places than the capacity leaves beside those that are reserved; None where there is room.
+/// The fault LogFull, where a request that needs `need` places needs more than the capacity leaves beside the `reserved` ones; None where there is
+/// room.
 pub fn if_full(capacity: u64, reserved: u64, need: u64) -> Option<AppendFault>
     requires { reserved ≤ capacity }
     ensures { if_full capacity reserved need ≡ fault_if result }

@@ -91,7 +91,7 @@ impl OpenRequests {
     }
 
     /// Follows the entry at `place`, whose message has this key, None of a Tick: a verdict takes its request out, and a request comes in unless a
-    /// verdict on it stands before it, as `is_decided` says.
+    /// verdict on it stands before it, as `is_decided` says. A response and a Tick change nothing. Room was made by `reserve`, so it takes no memory.
     pub fn follow(&mut self, key: &Option<Key>, place: u64, is_decided: bool)
         requires room { deque_len self.old.places < deque_capacity self.old.places }
         ensures { (message : Message) (low high : ℕ) → key.now ≡ key_of message → RisesBetween low self.old.places.items high

@@ -42,7 +42,8 @@ fn put(places: &mut IndexMap<Key, u64>, key: Key, place: u64)
     let _ = places.insert(key, place).unwrap();
 }
 
-/// Notes that the message of a new entry, with this key, stands at `place`. A Tick has no key, and nothing is noted.
+/// Notes that the message of a new entry, with this key, stands at `place`. Where the key is None, as of a Tick, nothing is noted. Room was made for
+/// it, so it takes no memory.
 pub fn put_place(places: &mut IndexMap<Key, u64>, key: Option<Key>, place: u64)
     requires { 0 < spare places.old }
     ensures { (list : List Entry) (e : Entry) → Leads list (λ k. get key_eq places.old k) → length list ≡ place → key ≡ key_of e.message

@@ -26,7 +26,7 @@ pub record AreAnswered (m : Machine) (why : Why SubmitFault) (now : ℕ) (paused
   -- each participant has a queue, with one result for each of its submissions
   pub hosts : length queues ≡ m.hosts
   pub queues_of : AreQueuesOf submits queues
-  -- what the results in each queue say is so of the log
+  -- what the results in each queue say is true of the log
   pub clients : (p : ParticipantId) → p < m.hosts → ClientHas m why now paused first log (queued submits queues p)
   -- as many requests and Ticks came into the log behind `first` as the clients were given tickets
   pub count : inputs log ≡ inputs first + sum_below (λ (p : ParticipantId). tickets (queued submits queues p)) m.hosts

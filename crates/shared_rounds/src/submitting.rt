@@ -97,7 +97,7 @@ fn gather<
 
 /// Answers the submissions of a round that has begun, by a client for each participant in a thread of its own, beside as many lanes as `workers` has;
 /// with less than two submissions no thread is started and no lane works. Each client submits in order, and asks once after each request that was sent.
-/// The world that comes out isn't settled, and has the bases as they were. After want of memory there is none any more.
+/// The world that comes out isn't settled, and its participants have the bases that they had. After want of memory there is none any more.
 pub fn submit_shared<'r, R: Threads + Wait + Sync + RandomSource + AllocGlobal, G: Gate + Sync>(
     workers: &Workers<'_, R, G>,
     setup: &Setup,

@@ -141,7 +141,8 @@ fn read_item(reader: &mut Reader<'_>, alloc: Global) -> Result<Item, ReaderFault
     Ok(Item { time, what })
 }
 
-/// Reads a count in four bytes and so many items of an inbox. A fault says how many bytes are left where the first field begins that can't be read.
+/// Reads a count in four bytes and so many items of an inbox. A fault says how many bytes are left where the first field begins that can't be read, or
+/// that memory is wanting.
 #[tactic(auto, unfolding(crate::specs::Reading::items_listed_at))]
 pub fn read_items(reader: &mut Reader<'_>, alloc: Global) -> Result<ItemList, ReaderFault>
     ensures { Gives (λ x. (x, reader.new)) result (items_listed_at reader.old) }

@@ -25,7 +25,8 @@ struct Head {
     paused: bool,
 }
 
-/// Reads a state, and leaves what stands behind it to the reader. A fault says how many bytes are left where the first field begins that can't be read.
+/// Reads a state, and leaves what stands behind it to the reader. A fault says how many bytes are left where the first field begins that can't be read,
+/// or that memory is wanting.
 #[tactic(auto, unfolding(crate::specs::Reading::state_at))]
 pub fn read_state(reader: &mut Reader<'_>, alloc: Global) -> Result<NodeState, ReaderFault>
     ensures { Gives (λ x. (x, reader.new)) result (state_at reader.old) }

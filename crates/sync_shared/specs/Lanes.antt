@@ -15,8 +15,8 @@ use Rattle.sync_shared.specs.declared.node_step.CopiedResponse.{CopiedResponse}
 use Rattle.sync_shared.specs.declared.node_step.NodeStep.{NodeStep}
 use Rattle.sync_shared.specs.declared.node_step.NodeStep.TheVariants.{Done, Check, Send}
 
--- Participant p has claimed the job, whose place isn't below its base, when it had read what the slip `known` ties; and the verdicts on the job's views
--- are those that it owes there.
+-- Participant p has claimed the job, which has a view left to check and whose place isn't below p's base, when it had read what the slip `known` ties;
+-- and the verdicts on the job's views are those that p owes there.
 pub record IsClaimed (row : RowName) (m : Machine) (bases : Bases) (p : ParticipantId) (c : ClaimedJob) : Type 0 where
   pub in_row : InRow row c.known
   pub left : 0 < c.job.left
@@ -29,7 +29,8 @@ pub record IsCopied (row : RowName) (m : Machine) (c : CopiedResponse) : Type 0 
   pub in_row : InRow row c.known
   pub owed : IsOwed m.reading m.params (read_to c.known) c.response
 
--- What participant p has left to do outside its lock is so: nothing, the check of a job that it has claimed, or the sending of a response that it owes.
+-- What holds of a step of participant p, which is what its turn leaves to be done outside its lock: nothing, the check of a job that it has claimed
+-- (`IsClaimed`), or the sending of a response that it owes (`IsCopied`).
 abbrev pub IsStep : RowName → Machine → Bases → ParticipantId → NodeStep → Type 0
 IsStep row m bases p Done = Unit {0}
 IsStep row m bases p (Check claimed) = IsClaimed row m bases p claimed

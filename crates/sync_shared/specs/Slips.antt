@@ -14,7 +14,9 @@ read_to (Some slip) = slip.list
 abbrev pub InRow : RowName → Option LogPrefix → Type 0
 InRow row last = IfSome last (λ slip. slip.row ≡ row)
 
--- The slip is what somebody who has read `list` reads next: it is of this history, and ties one entry more, of a genuine log.
+-- The slip is that of the next entry for somebody who has read `list` of this history: it is of the same history, ties one entry more than `list` has,
+-- and what it ties is a genuine log. That `list` begins this isn't asked, since of two slips of one history one always begins the other. The length of
+-- `list` has room in 64 bits.
 pub record IsNextIn (row : RowName) (m : Machine) (list : List Entry) (slip : LogPrefix) : Type 0 where
   pub in_row : slip.row ≡ row
   pub next : length slip.list ≡ length list + 1

@@ -33,7 +33,8 @@ impl<'r, S: Session> Model for Client<'r, S> {
 }
 
 impl<'r, S: Session> Client<'r, S> {
-    /// A client of the participant `me` that has seen the entries that the slip `last` ties, and counts what it appends with the share.
+    /// A client of the participant `me` that has seen the entries that the slip `last` ties, none where it is None. It counts what it appends with the
+    /// share.
     pub fn of(share: Share<S>, last: Option<Slip<'r>>, me: ParticipantId) -> Client<'r, S>
         requires row { InRow S.history last }
         requires parts { share.parts ≡ 1 }

@@ -136,7 +136,8 @@ fn take_turn<'r, S: Session, R: Wait + RandomSource + AllocGlobal, G: Gate, cons
 }
 
 /// The turn of the participant with the index `at`, from 0 to 7: it reads to the end of the log, and then checks one request or, where it owes nothing,
-/// sends one response. The result is whether it did either, after which more may be left to be done; false where there is no such participant.
+/// sends one response. The result is whether it did either, after which more may be left to be done; false where there is no such participant. An Err
+/// is want of memory.
 pub fn serve<'r, S: Session, R: Wait + RandomSource + AllocGlobal, G: Gate>(
     rt: &R,
     log: &Mutex<LockedLog<'r, S>>,

@@ -139,8 +139,8 @@ impl<'r, S: Session, const I: u8> LockedNode<'r, S, I> {
         again(&mut self.last)
     }
 
-    /// The request that a submission wants over what was read, or why it wants none; `now` is the round's time. Whether submissions are taken is the
-    /// round's matter, so the node's own flag is cleared, and the answer is never Paused.
+    /// The request that a submission wants over what was read, or why it wants none; `now` is the round's time. Whether the participant is paused is
+    /// tried before, by the round, so the node's own flag of that is cleared, and the answer is never Paused.
     pub fn prepare(&mut self, what: &Submission, now: u64) -> Result<Request, SubmitFault>
         requires mine { what.now.participant ≡ I }
         requires named { AreKnown (is_hosted S.topology) (parties_in_what what.now.what) }
@@ -168,7 +168,8 @@ impl<'r, S: Session, const I: u8> LockedNode<'r, S, I> {
         self.node.completion_of(place)
     }
 
-    /// Claims the first request to which the participant owes verdicts, and gives the job of checking it; None where there is none to claim.
+    /// Claims the first request to which the participant owes verdicts, and gives the job of checking it; None where there is none to claim. After want
+    /// of memory nothing is claimed.
     pub fn claim_job(&mut self) -> Result<Option<ValidateJob<'r>>, AllocError>
         ensures same { self.new ≡ self.old }
         ensures left { IfOk result (λ o. IfSome o (λ job. 0 < job.left)) }
@@ -195,8 +196,8 @@ impl<'r, S: Session, const I: u8> LockedNode<'r, S, I> {
         }
     }
 
-    /// The place since when the request at `place`, which was claimed, is decided by what was read. None where it isn't decided, or less was read than
-    /// when its job was claimed; `known` is the slip of what was read then.
+    /// The least place, by what was read, at which the request at `place`, which was claimed, is decided. None where it isn't decided, or less was read
+    /// than when its job was claimed; `known` is the slip of what was read then.
     pub fn decided_at(&mut self, known: &mut Option<Slip<'r>>, place: u64) -> Option<u64>
         requires row { InRow S.history known.old }
         requires claimed { Claimed S.machine I (read_to known.old) place }
@@ -216,7 +217,7 @@ impl<'r, S: Session, const I: u8> LockedNode<'r, S, I> {
         self.node.outbox(self.alloc)
     }
 
-    /// Takes the response to the request at the place `request` out of the outbox.
+    /// Takes the response to the request at the place `request`, which was handed in to the log, out of the outbox.
     pub fn sent(&mut self, request: u64)
         ensures same { self.new ≡ self.old }
     {

@@ -62,7 +62,8 @@ impl<'r, S: Session> LockedNodes<'r, S> {
         }
     }
 
-    /// Takes the nodes out of their locks, without memory; they stand in the order of the topology. What each has read begins the log.
+    /// Takes the nodes out of their locks, without memory; they stand in the order of the topology. The sequencer, which is of this sharing's history,
+    /// stays as it is: the prover learns from it that what each node has read begins the log.
     #[tactic(auto, using(crate::proofs::NodeLists::no_nodes))]
     pub fn into_nodes(self, sequencer: &mut Sequencer<'r>) -> Vec<Node<'r>>
         requires { sequencer.old.row ≡ S.history }

@@ -48,8 +48,8 @@ fn follows_slip<'r>(known: &mut Slip<'r>, last: &mut Slip<'r>) -> bool
     known.place() <= last.place()
 }
 
-/// Whether what somebody had read once, up to the slip `known`, begins what it has read by now, up to `last`; the places of the slips tell. Where `known`
-/// is None nothing had been read, so it is true.
+/// Whether what somebody had read once, up to the slip `known`, begins what it has read by now, up to `last`, which is where the place of `last` isn't
+/// less. Where `known` is None nothing had been read, so it is true; where only `last` is None, it is false.
 pub fn follows<'r, S: Row>(known: &mut Option<Slip<'r>>, last: &mut Option<Slip<'r>>) -> bool
     requires known { InRow S.history known.old }
     requires last { InRow S.history last.old }

@@ -15,7 +15,7 @@ use Rattle.trigger_model.specs.CausedRun.{CausedHolds, FiredRound}
 abbrev pub submissions_in : List Caused → List Submission
 submissions_in caused = map (λ (one : Caused). one.submission) caused
 
--- A round of a run as rules see it, with its number, its time `now` and what the rules caused in it.
+-- A round of a run as rules see it, with its number, its time `now` and what the rules caused in it; `AreRounds` compares by it.
 abbrev pub fired_round : {F : Type 0} → (number now : ℕ) → RoundParts F → List Caused → FiredRound
 fired_round number now x caused = record { number = number; now = now; paused = x.round.paused; end = x.end; caused = caused }
 
@@ -29,7 +29,7 @@ AreRounds number now (x ∷ xs) (y ∷ ys) =
     (y ≡ fired_round number (now + x.round.advance) x y.caused) × (x.caused ≡ submissions_in y.caused)
     × AreRounds (suc number) (now + x.round.advance) xs ys
 
--- No submission and no raw request of the round has an id that is kept for one of these rules.
+-- No submission and no raw request of the round has an id that is kept for one of these rules of its participant or sender.
 pub record HasOwnIds {F : Type 0} (rules : List Rule) (x : RoundParts F) : Type 0 where
   pub submits : All (λ (what : Submission). is_rule_command rules what.participant what.command ≡ false) x.round.submits
   pub raws : All (λ (request : Request). is_rule_command rules request.sender request.command ≡ false) x.round.raws

@@ -60,7 +60,7 @@ RoundsFire may reading params log rules earlier [] = Unit {0}
 RoundsFire may reading params log rules earlier (round ∷ rounds) =
     RulesFire may reading params log round earlier rules round.caused × RoundsFire may reading params log rules (earlier ++ round.caused) rounds
 
--- no rule fired twice on one contract, of all that is listed here
+-- no rule fired twice on one contract, by all that is listed here: two entries with the same rule and contract stand at one place
 abbrev pub AreOnce : List Caused → Type 0
 AreOnce caused = (i j : ℕ) (a b : Caused) → slice_get caused i ≡ Some a → slice_get caused j ≡ Some b → a.rule ≡ b.rule → a.contract ≡ b.contract → i ≡ j
 

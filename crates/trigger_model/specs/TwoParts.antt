@@ -29,7 +29,7 @@ both_parts x =
     record { round = x.round; results = x.results; end = x.end }
     ∷ record { round = second_round x.round x.caused; results = x.caused_results; end = x.caused_end } ∷ []
 
--- the parts of these rounds, two a round, in order
+-- the parts of these rounds as rounds of their own, two for each, in order; by it what a run says of rounds is said of parts
 abbrev pub parts_of : {F : Type 0} → List (RoundParts F) → List (RoundAnswers F)
 parts_of rounds = flat_map both_parts rounds
 

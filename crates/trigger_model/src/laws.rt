@@ -27,7 +27,8 @@ pub fn one_thread_parts<F>()
         → RunInParts m why log rounds }
 {}
 
-/// Where rules are asked round after round, what they cause is right as a run says it (`CausedHolds`). `answer` is who answers for the rules.
+/// Where rules, no two of one name, are asked round after round (`RoundsFire`), what they cause is right as a run says it (`CausedHolds`). `answer` is
+/// who answers for the rules.
 pub fn rules_cause<A: Answering>()
     ensures { (answer : A) (rules : List Rule) (reading : Reading) (params : Params) (log : List Entry) (rounds : List FiredRound)
         → AreNamed rules
@@ -35,8 +36,8 @@ pub fn rules_cause<A: Answering>()
         → CausedHolds (A.may_answer answer) rules reading params log rounds }
 {}
 
-/// Each request of a run with rules whose id is kept for a rule of its sender is that of something that a rule caused, where neither submissions nor
-/// raw requests have such an id.
+/// Each request of a run with rules whose id is kept for a rule of its sender is the request of a submission that a rule caused, and that was answered
+/// Sent with the request's place. It needs that no submission and no raw request of the script has such an id (`HasOwnIds`).
 pub fn requests_are_caused<F, A: Answering>()
     ensures { (m : Machine) (why : Why F) (answer : A) (rules : List Rule) (log : List Entry) (rounds : List (RoundParts F)) (fired : List FiredRound)
         (k : ℕ) (request : Request)
@@ -89,8 +90,8 @@ pub fn fires_stay<A: Answering>()
         → RulesFire (A.may_answer answer) reading params (log ++ more) round earlier rules caused }
 {}
 
-/// Where the first rules of a round were asked, and it is known on which contracts each rule has fired, the next rule may be asked: then one
-/// rule more was asked, and the same is known.
+/// Where the first `count` of the rules, no two of one name, were asked in a round, and `fired` gives the contracts on which each has fired, the next
+/// rule may be asked. Then the first `count + 1` were asked, and `fired'` gives these contracts.
 pub fn rules_are_asked_in_order<A: Answering>()
     ensures { (answer : A) (reading : Reading) (params : Params) (log : List Entry) (round : FiredRound) (earlier : List Caused) (rules : List Rule)
         (fired fired' : ℕ → List (List ℕ)) (count n : ℕ) (caused own : List Caused) (rule : Rule)

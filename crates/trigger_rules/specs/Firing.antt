@@ -16,7 +16,7 @@ use Rattle.trigger_rules.specs.Answers.{Answers, IsExerciseOf}
 abbrev pub has_fired : List (List ℕ) → (id : List ℕ) → Bool
 has_fired fired id = list_any (bytes_eq id) fired
 
--- the ids of the contracts on which rules caused these, in order
+-- the ids of the contracts of what rules caused, in order
 abbrev pub contracts_of : List Caused → List (List ℕ)
 contracts_of caused = map (λ (one : Caused). one.contract) caused
 
@@ -24,7 +24,7 @@ contracts_of caused = map (λ (one : Caused). one.contract) caused
 abbrev pub command_id : (name : List ℕ) → (before : ℕ) → List ℕ
 command_id name before = name ++ (45 ∷ decimal before)
 
--- what the rule submits with a command, for its party and at the time `now` (microseconds), where it fired so often `before`
+-- what the rule submits with a command, for its party and at the time `now` (microseconds), where `before` is how often it fired before
 abbrev pub submission_by : Rule → (now before : ℕ) → Command → Submission
 submission_by rule now before command =
     record {
@@ -35,13 +35,13 @@ submission_by rule now before command =
       what = Commands (command ∷ []);
     }
 
--- what the rule causes in a round with a command on a known contract, at the time `now`, where it fired so often `before`
+-- what the rule causes in a round with a command on a known contract, at the time `now`, where `before` is how often it fired before
 abbrev pub caused_by : Rule → (round now before : ℕ) → Known → Command → Caused
 caused_by rule round now before known command =
     record { round = round; rule = rule.name; contract = known.id; instance = known.instance; submission = submission_by rule now before command }
 
--- The rule, which had fired on the contracts `fired`, fires on this one too, which gives `one`: it hadn't before, and this command may be
--- answered.
+-- The rule, which had fired on the contracts `fired`, fires on the contract `known` in this round at the time `now`, and `one` is what it causes: it
+-- hadn't fired on it before, and the command may be answered and exercises the contract.
 pub record FiresOn (may : Answers) (rule : Rule) (round now : ℕ) (fired : List (List ℕ)) (known : Known) (one : Caused) : Type 0 where
   pub command : Command
   pub is : one ≡ caused_by rule round now (length fired) known command
@@ -58,7 +58,7 @@ AsksOne may rule round now fired row caused fired' caused' =
     ⊎ (may rule.name row.known (Ok None) × (fired' ≡ fired) × (caused' ≡ caused))
     ⊎ ((one : Caused) × FiresOn may rule round now fired row.known one × (fired' ≡ fired ++ (row.known).id ∷ []) × (caused' ≡ caused ++ one ∷ []))
 
--- each place of the list is less than those behind it, as of the rows on which a rule fires
+-- Each number of the list is less than those behind it; `Fires` says it of the places of the rows on which a rule fires.
 abbrev pub Rise : List ℕ → Type 0
 Rise places = (i j a b : ℕ) → i < j → slice_get places i ≡ Some a → slice_get places j ≡ Some b → a < b
 

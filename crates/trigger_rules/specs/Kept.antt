@@ -12,7 +12,7 @@ pub record KeptRules (F : Type 0) : Type 0 where
   pub fired : List (List (List ℕ))
   pub answer : F
 
--- the contracts of a rule's list; none where it has no list yet
+-- the ids of a rule's list; the empty list where the rule has no list yet (None)
 abbrev pub or_none : Option (List (List ℕ)) → List (List ℕ)
 or_none None = []
 or_none (Some ids) = ids
@@ -29,8 +29,8 @@ AreShort rules = All (λ (rule : Rule). length rule.name ≤ MOST_RULE_NAME_BYTE
 abbrev pub AreNamed : List Rule → Type 0
 AreNamed rules = AllPairs (λ (one other : Rule). other.name ≢ one.name) rules
 
--- What always holds of kept rules: their names leave room, everything may be asked, and each command that may be answered exercises its
--- contract.
+-- What always holds of kept rules: their names leave room for a number (`AreShort`), `can_ask` holds, by which who answers may be asked about every
+-- rule and contract, and each command that may be answered exercises its contract.
 pub record IsKept (rules : List Rule) (can_ask : Type 0) (may : Answers) : Type 0 where
   pub short : AreShort rules
   pub askable : can_ask

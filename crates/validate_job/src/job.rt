@@ -87,8 +87,8 @@ fn verdict_on(
 }
 
 impl<'s> ValidateJob<'s> {
-    /// A job that checks the views with these paths of the request at `place`, none of them checked yet. `input` is what the participant checks the
-    /// request by.
+    /// A job that checks the views with these paths of the request at `place`, none of them checked yet. There has to be one at least, and each that is
+    /// opened has to be one that can be checked (`CanCheck`). `input` is what the participant checks the request by.
     pub fn new(input: CheckInput<'s>, place: u64, views: PathList) -> ValidateJob<'s>
         requires some { 0 < length views }
         requires each { All (CanCheck input) views }
@@ -128,8 +128,8 @@ impl<'s> ValidateJob<'s> {
         place
     }
 
-    /// Checks the next view, and gives the verdicts on all views after the last. None where views are left to check. After want of memory the job is
-    /// as before.
+    /// Checks the next view, of which one has to be left, and gives the verdicts on all views after the last. None where views are left to check. After
+    /// want of memory the job is as before.
     pub fn check_next(&mut self) -> Result<Option<Finished>, AllocError>
         requires { 0 < self.old.left }
         ensures one_view { OnOk result (self.new.left + 1 ≡ self.old.left) }
@@ -143,8 +143,8 @@ impl<'s> ValidateJob<'s> {
         self.check_next_by(&NativeList::new(alloc))
     }
 
-    /// Checks the next view, and gives the verdicts on all views after the last; None where views are left to check. The choices that `natives` has are
-    /// asked of them in place of the contract language. After want of memory the job is as before.
+    /// Checks the next view, of which one has to be left, and gives the verdicts on all views after the last; None where views are left to check. The
+    /// choices that `natives` has are asked of them in place of the contract language. After want of memory the job is as before.
     pub fn check_next_by(&mut self, natives: &NativeList) -> Result<Option<Finished>, AllocError>
         requires { 0 < self.old.left }
         ensures one_view { OnOk result (self.new.left + 1 ≡ self.old.left) }

@@ -18,8 +18,8 @@ ghost use Rattle.validate_job.specs.Owed.{owed_on_each};
 ghost use Rattle.validate_job.specs.OwedAt.{IsInputOf};
 ghost use Rattle.validate_job.specs.declared.finished.Finished.{Finished};
 
-/// The verdicts on the views that a participant confirms are those that it owes to the request, by what it knows of contracts, and a
-/// job that is given their paths ends with them.
+/// Where the input of a check is that of a request of which the participant has a notice (`IsInputOf`), the verdicts on the views that it confirms are
+/// those that it owes to the request, by what it knows of contracts, and a job that is given the paths of these views ends with them.
 pub fn verdicts_of_jobs_are_owed()
     ensures verdicts { (reading : Reading) (known : Hash → Status) (held : Hash → Bool) (notice : Notice) (input : CheckInput)
         → IsInputOf reading known held notice input

@@ -62,8 +62,8 @@ fault_from packages above k (Root act below others) =
 abbrev pub fault_at : Packages → List ℕ → Act → Actions → Option (List ℕ)
 fault_at packages path act below = if has_roles packages act.action then fault_from packages path 0 below else Some path
 
--- The code's fault is right, where `fault` is the path that the definitions give: it names this path as that of the first action without roles, or it
--- is want of memory, of which nothing is said.
+-- The code's fault agrees with `fault`, the path that the definitions give of the first action without roles, if there is one: it names that path, or
+-- it is want of memory, of which nothing is said.
 abbrev pub IsFault : Option (List ℕ) → SplitFault → Type 0
 IsFault fault (NoRoles path) = fault ≡ Some path
 IsFault fault Memory = Unit {0}

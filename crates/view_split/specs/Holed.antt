@@ -12,54 +12,55 @@ pub data Holed (A : Type 0) : Type 0 where
   Hole : (others : Holed A) → Holed A
 
 module _ {A : Type 0} where
-  -- its actions in pre-order, without the holes
+  -- the actions of a part of a core in pre-order, without the holes
   abbrev pub inner : Holed A → List A
   inner NoMore = []
   inner (Inner root below others) = root ∷ (inner below ++ inner others)
   inner (Hole others) = inner others
 
-  -- how many holes it has, at any depth
+  -- how many holes a part of a core has, at any depth
   abbrev pub holes : Holed A → ℕ
   holes NoMore = 0
   holes (Inner root below others) = holes below + holes others
   holes (Hole others) = suc (holes others)
 
-  -- how many actions and holes stand side by side at its top
+  -- how many actions and holes of a part of a core stand side by side at its top
   abbrev pub width : Holed A → ℕ
   width NoMore = 0
   width (Inner root below others) = suc (width others)
   width (Hole others) = suc (width others)
 
-  -- the first with the second put after it, at its top
+  -- what stands side by side at the top of the first, and then what stands at the top of the second, each with all below it
   abbrev pub beside : Holed A → Holed A → Holed A
   beside NoMore more = more
   beside (Inner root below others) more = Inner root below (beside others more)
   beside (Hole others) more = Hole (beside others more)
 
-  -- The trees that are left over once each hole, in pre-order, has taken one of these trees.
+  -- The trees that are left over once each hole of a part of a core, in pre-order, has taken one of these trees; none where there are fewer trees than
+  -- holes.
   abbrev pub after_holes : Holed A → Forest A → Forest A
   after_holes NoMore trees = trees
   after_holes (Inner root below others) trees = after_holes others (after_holes below trees)
   after_holes (Hole others) NoRoots = NoRoots
   after_holes (Hole others) (Root root below more) = after_holes others more
 
-  -- The trees that come of it when each hole, in pre-order, takes the next of these trees. A hole for which no tree is left is dropped.
+  -- The trees that come of a part of a core when each hole, in pre-order, takes the next of these trees. A hole for which no tree is left is dropped.
   abbrev pub fill : Holed A → Forest A → Forest A
   fill NoMore trees = NoRoots
   fill (Inner root below others) trees = Root root (fill below trees) (fill others (after_holes below trees))
   fill (Hole others) NoRoots = fill others NoRoots
   fill (Hole others) (Root root below more) = Root root below (fill others more)
 
-  -- The actions side by side at its top, where each hole stands for the next of `firsts`, the first actions of the views below, which all holes take in
-  -- pre-order, also those further down.
+  -- The actions side by side at the top of a part of a core, where each hole stands for the next of `firsts`, the first actions of the views below,
+  -- which all holes take in pre-order, also those further down. A hole for which none is left is dropped.
   abbrev pub children_with : Holed A → List A → List A
   children_with NoMore firsts = []
   children_with (Inner root below others) firsts = root ∷ children_with others (drop (holes below) firsts)
   children_with (Hole others) [] = children_with others []
   children_with (Hole others) (first ∷ firsts) = first ∷ children_with others firsts
 
-  -- It written as a list of marks, in front of the marks `after`: None is an end, Some None a hole, Some (Some a) the action a. So it can be coded as a
-  -- list can.
+  -- A part of a core written as a list of marks, in front of the marks `after`: None is an end, Some None a hole, Some (Some a) the action a. So it can
+  -- be coded as a list can.
   abbrev pub marks : Holed A → List (Option (Option A)) → List (Option (Option A))
   marks NoMore after = None ∷ after
   marks (Hole others) after = marks others (Some None ∷ after)

@@ -40,7 +40,8 @@ fn fill_into(
     Ok(())
 }
 
-/// Puts the next of the trees at the end of `out`, which fills a hole; where none is left it does nothing.
+/// Puts the next of the trees at the end of `out`, which fills a hole; where none is left it does nothing. Err is want of memory, and nothing is said
+/// of `trees` and `out` then.
 pub fn put_next(trees: &mut Trees, out: &mut ActionNodeList) -> Result<(), AllocError>
     ensures filled { OnOk result (out.new ≡ join out.old (fill (Hole NoMore) trees.old)) }
     ensures left { OnOk result (trees.new ≡ after_holes (Hole NoMore) trees.old) }
@@ -65,9 +66,9 @@ fn assemble_into(
     Ok(())
 }
 
-/// A view with all views below it, as the tree of its first action: each hole of a core, in pre-order, is filled by the next view below. It copies
-/// the actions; Err is want of memory. Of a view that has more holes than subviews the last holes stay empty, and subviews that are left over are
-/// dropped; no view that is split off a transaction is so.
+/// A view with all views below it, as the tree of its first action: each hole of a core, in pre-order, is filled by the next view below. It copies the
+/// actions; Err is want of memory. Of a view that has more holes than subviews the last holes stay empty, and of one that has fewer the last subviews
+/// are dropped; a view that is split off a transaction has as many.
 #[cycle(assemble)]
 pub fn assemble(alloc: Global, view: &View) -> Result<ActionNode, AllocError>
     ensures { IfOk result (λ n. tree_of n ≡ assembled (tree_of view.now)) }

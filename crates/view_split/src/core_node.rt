@@ -96,7 +96,7 @@ impl CoreChildList {
         self.children.as_slice()
     }
 
-    /// Puts a child at the end.
+    /// Puts a child at the end. Err is want of memory, and leaves the list as it was.
     #[tactic(auto, using(crate::proofs::Grow::child_pushed))]
     pub fn push(&mut self, child: CoreChild) -> Result<(), AllocError>
         ensures ok { OnOk result (self.new ≡ beside self.old (children_of (child ∷ []))) }

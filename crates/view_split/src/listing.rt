@@ -54,7 +54,8 @@ fn list_next<'a>(
     Ok(())
 }
 
-/// Puts the actions of a view and of all views below it at the end of `found`, in pre-order of the tree that the view is put back to.
+/// Puts the actions of a view and of all views below it at the end of `found`, in pre-order of the tree that the view is put back to. Err is want of
+/// memory, and nothing is said of `found` then.
 #[cycle(list_acts)]
 pub fn acts_in_view<'a>(view: &'a View, found: &mut Vec<ActRef<'a>>) -> Result<(), AllocError>
     ensures { OnOk result (found.new.items ≡ found.old.items ++ acts (assembled (tree_of view.now))) }

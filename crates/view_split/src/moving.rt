@@ -49,8 +49,8 @@ fn move_views(alloc: Global, views: ViewList, out: &mut ActionNodeList) -> Resul
     Ok(())
 }
 
-/// A view with all views below it, as the tree of its first action: each hole is filled by the next view below. It moves the view's own seeds and
-/// actions and copies nothing. Err is want of memory.
+/// A view with all views below it, as the tree of its first action, as `assemble` makes it: each hole is filled by the next view below. It moves the
+/// view's own seeds and actions and copies nothing. Err is want of memory.
 #[cycle(into_assembled)]
 pub fn into_assembled(alloc: Global, view: View) -> Result<ActionNode, AllocError>
     ensures { IfOk result (λ n. tree_of n ≡ assembled (tree_of view)) }

@@ -207,9 +207,9 @@ fn split_roots(
     Ok(views)
 }
 
-/// The views of a transaction (Canton protocol: transaction views). Each root action starts a view, and a consequence exactly where it has an
-/// informee that isn't one of the view around it. The path of the fault NoRoles is that of the first action in pre-order that has no roles. A step of
-/// a path has 16 bits, and of a number beyond them it has the lowest.
+/// The views of a transaction (Canton protocol: transaction views). Each root action starts a view, and a consequence exactly where it has an informee
+/// that isn't one of the view around it. Err is want of memory, or NoRoles with the path of the first action in pre-order that has no roles. A step of
+/// that path has 16 bits, and of a number beyond them it has the lowest.
 pub fn split(alloc: Global, checked: &Checked, tx: &Tx) -> Result<Views, SplitFault>
     ensures { Follows SplitFault.Memory result (views_of_tx checked.now tx.now) }
 {

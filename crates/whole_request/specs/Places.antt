@@ -46,8 +46,8 @@ with_rest (Some view) None rest = None
 with_rest (Some view) (Some below) None = None
 with_rest (Some view) (Some below) (Some rest) = Some (Root view below rest)
 
--- All views that the mediator's vertices (last argument) stand for, the first of which is number k below the path of the first argument: each from
--- the first envelope that opens it. None where one is opened by no envelope, or is blinded to the mediator.
+-- All views that the mediator's vertices (last argument) stand for, the first of which is number k below the path `above`: each from the first of the
+-- envelopes (third argument) that opens it. None where one is opened by no envelope, or is blinded to the mediator.
 abbrev pub together : List ℕ → ℕ → List Shown → Vertices → Option (Forest SplitView)
 together above k shown NoVertices = Some NoRoots
 together above k shown (BlindVertex hash others) = None
@@ -55,7 +55,7 @@ together above k shown (InnerVertex informees contents subviews others) =
     with_rest (view_at (above ++ k ∷ []) (parts_at k shown)) (together (above ++ k ∷ []) 0 (shown_below k shown) subviews)
     (together above (suc k) shown others)
 
--- one view at this path, number k of those side by side, with all below it, over the mediator's vertices below it; None where one of these is opened
--- by no envelope
+-- One view at this path, number k of those side by side, with all below it, over the mediator's vertices below it (last argument): each from the first
+-- of the envelopes (third argument) that opens it. None where one is opened by no envelope, or one below it is blinded to the mediator.
 abbrev pub root_together : List ℕ → ℕ → List Shown → Vertices → Option (Forest SplitView)
 root_together path k shown subviews = with_rest (view_at path (parts_at k shown)) (together path 0 (shown_below k shown) subviews) (Some NoRoots)

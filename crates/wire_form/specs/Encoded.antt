@@ -41,7 +41,7 @@ is_spelled_action (Fetch id salt i actors) = are_spelled i.fields && is_spelled_
 unfoldable pub action_bytes : Action → ℕ
 action_bytes a = if is_spelled_action a then 32 + length (spell_action a) else 2 ^ 64
 
--- the size of a transaction, in bytes: the sum over all its actions; 0 where there is none
+-- the size of a transaction, in bytes: the sum of what its actions count for at all levels, by which the limit on sizes is tried; 0 of no actions
 abbrev pub encoded_bytes : Actions → ℕ
 encoded_bytes NoRoots = 0
 encoded_bytes (Root act consequences others) = action_bytes act.action + (encoded_bytes consequences + encoded_bytes others)

@@ -16,13 +16,13 @@ byte_at (b ∷ rest) = Ok (b, rest)
 abbrev pub bytes_at : ℕ → Reading (List ℕ)
 bytes_at n bytes = if nat_lt (length bytes) n then Err (length bytes) else Ok (take n bytes, drop n bytes)
 
--- a number of that width (w16, w32 or w64: 2, 4 or 8 bytes), high byte first
+-- a number of that width (w16, w32 or w64: 2, 4 or 8 bytes), high byte first; Err where fewer bytes are left
 unfoldable pub number_at : Width → Reading ℕ
 number_at w bytes = do
   n ← bytes_at (byte_len w) bytes
   Ok (from_be_bytes w n.0, n.1)
 
--- a whole number of eight bytes in two's complement, high byte first
+-- a whole number of eight bytes in two's complement, high byte first; Err where fewer bytes are left
 unfoldable pub int_at : Reading ℤ
 int_at bytes = do
   n ← bytes_at 8 bytes
@@ -40,7 +40,7 @@ small_count_at limit bytes = do
   n ← byte_at bytes
   if nat_le n.0 limit then Ok n else Err (length bytes)
 
--- the 32 bytes of a hash
+-- the 32 bytes of a hash; Err where fewer bytes are left
 unfoldable pub hash_at : Reading (List ℕ)
 hash_at bytes = bytes_at 32 bytes
 

@@ -21,13 +21,14 @@ pub record IsShortText (text : List ℕ) : Type 0 where
   pub few : length text ≤ MOST_TEXT_BYTES
   pub utf8 : is_utf8 text ≡ true
 
--- a set in range has at most 128 names, which ascend
+-- a set in range has at most 128 names, each in the form of a name, and they rise strictly by their bytes
 pub record IsPartySet (parties : List (List ℕ)) : Type 0 where
   pub few : length parties ≤ MOST_PARTIES
   pub names : All IsName parties
   pub ascend : IsRising parties
 
--- a value is in range by its kind: a number fits 64 bits, a text is short, a party is a name, a contract is a hash, a set is one in range
+-- a value is in range by its kind: a number fits 64 bits, a text is short, a party is a name, a contract is a hash, a set is one in range; the unit and
+-- a truth value always are
 abbrev pub IsInRange : Value → Type 0
 IsInRange UnitValue = Unit {0}
 IsInRange (Int n) = FitsSigned w64 n

@@ -2,8 +2,8 @@
 use Rattle.std.specs.Prelude.{◌≡◌, ℕ, ◌<◌, List, ◌++◌, Ok, All}
 use Rattle.wire_form.specs.Formats.{Reading}
 
--- No spelling of a value in range begins that of another: where two values with whatever follows them are the same bytes, they are one value,
--- followed by the same.
+-- No spelling of a value in range begins that of another: where the spellings of two values, each with some bytes behind it, are the same bytes, the
+-- values are one, and so are the bytes behind them.
 abbrev pub NoneBeginsAnother : {A : Type 0} → (A → List ℕ) → (A → Type 0) → Type 0
 NoneBeginsAnother {A} spell InRange =
     (x y : A) (after_x after_y : List ℕ) → InRange x → InRange y → spell x ++ after_x ≡ spell y ++ after_y → (x ≡ y) × (after_x ≡ after_y)
@@ -14,10 +14,12 @@ pub record HasOneSpelling {A : Type 0} (spell : A → List ℕ) (InRange : A →
   pub read_is_spelled : (bytes : List ℕ) (x : A) (rest : List ℕ) → All (λ b. b < 256) bytes → read bytes ≡ Ok (x, rest) → InRange x × (bytes ≡ spell x ++ rest)
   pub spelled_is_read : (x : A) (rest : List ℕ) → InRange x → read (spell x ++ rest) ≡ Ok (x, rest)
 
--- Second holds of each value of which First holds. It says that what is in range is spellable.
+-- The statement of the second argument holds of each value of which that of the first does. The laws say by it that what is in range (first) is
+-- spellable (second), so that it can be encoded.
 abbrev pub IsEnoughFor : {A : Type 0} → (A → Type 0) → (A → Type 0) → Type 0
 IsEnoughFor {A} First Second = (x : A) → First x → Second x
 
--- Is holds of each value that the reading gives, of any bytes. It says that what is read is spellable.
+-- The statement Is holds of each value that the reading gives, of any bytes. The laws say by it that what is read is spellable, so that it can be
+-- encoded again.
 abbrev pub IsGivenBy : {A : Type 0} → Reading A → (A → Type 0) → Type 0
 IsGivenBy {A} read Is = (bytes : List ℕ) (x : A) (rest : List ℕ) → read bytes ≡ Ok (x, rest) → Is x

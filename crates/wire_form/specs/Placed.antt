@@ -31,11 +31,12 @@ pub record StandsAt {A : Type 0} (spell : A → List ℕ) (InRange : A → Type 
   pub spelling : drop at bytes ≡ spell d.value ++ drop d.next bytes
   pub within : d.next ≤ length bytes
 
--- Where the decoder's answer is a value, that value is in range and its spelling stands at the place `at`.
+-- Where the decoder's answer is a value, that value is in range (`InRange`) and its spelling (`spell`) stands at the place `at`.
 abbrev pub IsFound : {A : Type 0} → (A → List ℕ) → (A → Type 0) → List ℕ → ℕ → Result (Decoded A) WireFault → Type 0
 IsFound spell InRange bytes at result = IfOk result (λ d. StandsAt spell InRange bytes at d)
 
--- Where the spelling of a value in range stands at the place `at`, the answer is that value with the place after it, unless it is want of memory.
+-- Where the spelling (`spell`) of a value in range (`InRange`) stands at the place `at`, the answer is that value with the place after it, unless it is
+-- want of memory.
 abbrev pub FindsAll : {A : Type 0} → (A → List ℕ) → (A → Type 0) → List ℕ → ℕ → Result (Decoded A) WireFault → Type 0
 FindsAll {A} spell InRange bytes at result =
     (x : A) (rest : List ℕ) → InRange x → drop at bytes ≡ spell x ++ rest

@@ -1,5 +1,6 @@
 -- The readings of sets, values, lists of values, instances and actions. A reading takes bytes and answers what stands at their front with the bytes
--- after it, or Err with how many bytes are left where the first field begins that can't be read.
+-- after it, or Err with how many bytes are left where the first field begins that can't be read. What has several parts is read as nested pairs, of a
+-- type `..Parts`, and a function `.._of` makes the value of them.
 use Rattle.std.specs.Prelude.{ℕ, zero, suc, Bool, List, Result, Ok, Err, length}
 use Rattle.ledger_terms.specs.Parties.{stands_above}
 use Rattle.ledger_terms.specs.declared.value.Value.{Value}

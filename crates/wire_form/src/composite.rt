@@ -1,4 +1,4 @@
-//! Reading what is made of several fields.
+//! Reading what is made of several fields. After an Err nothing is said of the bytes that the reader has left.
 ghost use Rattle.std.specs.Prelude.{◌≡◌, [], length};
 ghost use Rattle.ledger_terms.specs.Parties.{stands_above};
 ghost use Rattle.wire_form.specs.Formats.{Gives, items_at, one_more, any_item};

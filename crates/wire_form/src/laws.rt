@@ -5,7 +5,8 @@ ghost use Rattle.wire_form.specs.Spelling.{spell_action, spell_instance, spell_p
 ghost use Rattle.wire_form.specs.Spellable.{AreSpellable, IsSpellable, IsSpellableAction, IsSpellableInstance, IsSpellableSet};
 ghost use Rattle.wire_form.specs.InRange.{AreInRange, IsAction, IsInRange, IsInstance, IsPartySet};
 
-/// No spelling begins another one, so bytes that begin with the spelling of one value, list, set, instance or action begin with that of no other.
+/// No spelling of a value, a list of values, a set, an instance or an action in range begins that of another one of its kind. So bytes that begin with
+/// such a spelling begin with that of no other of the kind.
 pub fn none_begins_another()
     ensures values { NoneBeginsAnother spell_value IsInRange }
     ensures lists { NoneBeginsAnother spell_values AreInRange }

@@ -1,5 +1,5 @@
 //! A reader over bytes, field by field. Each call takes its field from the front; Err says how many bytes were left where the field began that can't
-//! be read, or that there was no memory.
+//! be read, or that there was no memory. After an Err nothing is said of the bytes that the reader has left.
 ghost use Rattle.std.specs.Prelude.{◌≡◌, length, IfOk};
 ghost use Rattle.std.specs.Int.{w32, w64};
 ghost use Rattle.wire_form.specs.Formats.{Gives};

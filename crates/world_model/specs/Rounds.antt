@@ -63,7 +63,8 @@ wanted_at m now log what n = m.prepare what (read_at m log what n) now
 abbrev pub ticked : Machine → (now : ℕ) → Round → List Entry → List Entry
 ticked m now round log = if nat_eq round.advance 0 then log else sequenced m now log Tick
 
--- the log after these requests were handed in, one after another; those that are refused leave no trace
+-- the log after these requests were handed in, one after another; those that are refused leave no trace; `now` has no effect, since no Tick is among
+-- them
 abbrev pub handed_in : Machine → (now : ℕ) → List Entry → List Request → List Entry
 handed_in m now log [] = log
 handed_in m now log (request ∷ rest) = handed_in m now (sequenced m now log (RequestMessage request)) rest

@@ -80,7 +80,7 @@ abbrev pub node_reads : Machine → World → ParticipantId → NodeState → Op
 node_reads m w p node None = w
 node_reads m w p node (Some entry) = with_node w p (read_entry m.reading p node (take (length node.items) w.log) entry)
 
--- participant p, with the state `node`, claims and finishes the job of place k; nothing is done where there is no such place
+-- participant p, with the state `node`, claims and finishes the job of place k; nothing is done where there is no job to claim (None)
 abbrev pub validates : Machine → World → ParticipantId → NodeState → Option ℕ → World
 validates m w p node None = w
 validates m w p node (Some k) = with_node w p (validate m.reading m.params p node k)

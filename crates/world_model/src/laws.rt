@@ -93,7 +93,8 @@ pub fn passes_settle()
         → reserved (passes m now paused held n log) ≤ m.capacity }
 {}
 
-/// The messages that a ready participant, which has read n entries, appends in its turn leave the same log as the responses that are due of it (`due`).
+/// Behind a genuine log, the messages that a ready participant, which has read its first n entries, appends in its turn leave the same log as the
+/// responses that are due of it (`due`).
 pub fn turn_appends_what_is_due()
     ensures { (m : Machine) (now : ℕ) (p : ParticipantId) (log : List Entry) (n : ℕ) (node : NodeState)
         → GenuineLog m log
@@ -104,7 +105,7 @@ pub fn turn_appends_what_is_due()
 {}
 
 /// A turn is its first claim, response or verdict and then the rest of the turn, and where there is none to take it is at its end. So a loop that takes
-/// them one by one does what the definitions of a turn say.
+/// them one by one does what the definitions of a turn say. Claims never make the outbox shorter (`within`).
 pub fn one_by_one()
     ensures claim { (reading : Reading) (params : Params) (p : ParticipantId) (node : NodeState) (k : ℕ)
         → next_claim reading params p node ≡ Some k
@@ -139,8 +140,8 @@ pub fn ready_stays()
         → IsReady m p (log ++ more) node }
 {}
 
-/// The turns of all participants, one after another, make the log that the responses due of them make (`replies_below`), where each that isn't paused
-/// is as `MayTurn` asks; and after it each of these is ready again, whatever it has claimed.
+/// The turns of all participants behind a genuine log, one after another, make the log that the responses due of them make (`replies_below`), where
+/// each that isn't paused is as `MayTurn` asks. After it each of these is ready again, whatever it has claimed (`ready`).
 pub fn turns_are_a_pass()
     ensures turns { (m : Machine) (now : ℕ) (paused : List ParticipantId) (nodes : ParticipantId → NodeState) (log : List Entry)
         → IsReading m.reading
@@ -153,7 +154,8 @@ pub fn turns_are_a_pass()
         → IsReady m p (replies_below m now paused log m.hosts) node }
 {}
 
-/// The verdicts that a ready mediator gives one after another leave the log that the due verdicts leave.
+/// Behind a genuine log, the verdicts that a ready mediator which has read it gives one after another leave the same log as the verdicts that are due
+/// (`due_verdicts`).
 pub fn mediator_appends_what_is_due()
     ensures { (m : Machine) (now : ℕ) (log : List Entry) (given : List ℕ)
         → GenuineLog m log
@@ -344,8 +346,8 @@ pub fn one_thread_run<F>()
         → RunHolds m why log rounds }
 {}
 
-/// In a part whose verdicts aren't held a request at place k of it, submitted or raw, that all approve is approved, if the log has at most as many
-/// entries from k to the part's end as the response timeout has microseconds.
+/// In a genuine log whose last part has its verdicts not held, a request at place k of that part, submitted or raw, that all approve is approved, if
+/// the log has at most as many entries from k to the part's end as the response timeout has microseconds.
 pub fn short_part_approves<F>()
     ensures { (m : Machine) (now : ℕ) (round : Round) (results : Results F) (before after : List Entry) (k : ℕ)
         → IsReading m.reading
@@ -364,8 +366,8 @@ pub fn headline_of_genuine_log()
     ensures { (reading : Reading) (params : Params) (log : List Entry) → IsReading reading → Genuine reading params log → Headline reading params log }
 {}
 
-/// Each request of a log after any list of events is a raw one, or one that a submission wanted over a beginning of the log that its participant had
-/// read.
+/// Each request of a log after any list of events is a raw one of the list, or one that a submission of the list wanted, at some time, over a beginning
+/// of the log that ends at or before the request's place.
 pub fn requests_of_events()
     ensures { (m : Machine) (events : List Event) (k : ℕ) (request : Request)
         → IsMachine m

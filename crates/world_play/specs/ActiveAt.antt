@@ -41,7 +41,8 @@ module _ (topology : Topology) (packages : Packages) (now : ℕ) (log : List Ent
   abbrev pub Needs : (need read_to : ℕ) → Type 0
   Needs need read_to = (request : Request) × Wants read_to request × (need ≡ 2 + length request.confirming)
 
-  -- What a result says of the submission is so; of Paused nothing is said here. Nothing is said of want of memory either, which no result has.
+  -- What a result says of the submission is so, by `IsSent`, a cause of the fault (`HasCause`), `StandsThere` and `Needs`: of LogFull only the need is
+  -- judged, and of Paused nothing is said. Nothing is said of want of memory either, which no result has.
   abbrev pub IsAnsweredBy : SubmitResult SubmitFault → Type 0
   IsAnsweredBy (Sent place read_to) = IsSent place read_to
   IsAnsweredBy (Refused Paused read_to) = Unit {0}

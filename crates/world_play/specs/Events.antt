@@ -22,7 +22,7 @@ event_of GiveVerdict = w.GiveVerdict
 event_of LoseVerdict = w.LoseVerdict
 event_of (Pause node paused) = w.Pause node paused
 
--- the same of each event of a list, in order
+-- the events of the code, in order, as those of the world model for which they stand
 abbrev pub events_of : List Event → List w.Event
 events_of events = map event_of events
 

@@ -29,7 +29,8 @@ Happens m p event node log node' log' =
     → record { log = log'.list; now = now; mediator = mediator; nodes = set_at nodes p (state_over log'.list node') }
     ≡ happens m (record { log = log.list; now = now; mediator = mediator; nodes = nodes }) event
 
--- a participant's state once it has claimed the place k and finished the job there; the state as it was where there is no place to claim
+-- A participant's state once it has claimed the place k and finished the job there; the state as it was where there is no place to claim (None). By it
+-- `move_node` says what a Validate does.
 abbrev pub validated_if : Reading → Params → ParticipantId → NodeState → Option ℕ → NodeState
 validated_if reading params p node None = node
 validated_if reading params p node (Some k) = validate reading params p node k

@@ -46,7 +46,7 @@ pub record IsMediator (m : Machine) (state : MediatorState) (n : ℕ) (mediator 
   pub within : n ≤ length sequencer.list
   pub has : MediatorHas m (take n sequencer.list) state
 
--- The mediator has read all of the log, and keeps what the state has of requests without a verdict.
+-- The mediator has read all of the log, and keeps what the state has of requests without a verdict. `mediate` leaves it so.
 pub record HasAll (m : Machine) (state : MediatorState) (mediator : KeptMediator) (log : List Entry) : Type 0 where
   pub params : mediator.params ≡ m.params
   pub keeps : Keeps mediator state

@@ -30,7 +30,8 @@ result_of (Refused fault read_to) = w.Refused (fault_of fault) read_to
 abbrev pub results_of : List Submission → List SubmitResult → w.Results SubmitFault
 results_of submits results = zip submits (map result_of results)
 
--- Where the result says that a request was sent, the log reaches beyond the request's place. A refusal says nothing here.
+-- Where the result says that a request was sent, the log reaches beyond the request's place, so that the slip of its entry can be taken. Of a refusal
+-- this says nothing.
 abbrev pub IsPlaced : List Entry → SubmitResult → Type 0
 IsPlaced log (Sent place read_to) = place < length log
 IsPlaced log (Refused fault read_to) = Unit {0}

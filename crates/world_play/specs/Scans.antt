@@ -4,7 +4,7 @@ use Rattle.ledger_model.specs.Terms.{ParticipantId}
 use Rattle.world_model.specs.Messages.{Request}
 use Rattle.world_model.specs.Places.{has_place}
 
--- whether the request asks participant p for a response; false where there is no request
+-- whether the request asks participant p for a response; false where there is no request (None)
 abbrev pub asks : (p : ℕ) → Option Request → Bool
 asks p None = false
 asks p (Some request) = has_place request.confirming p

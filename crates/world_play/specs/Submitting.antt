@@ -21,8 +21,9 @@ wanted_of log what now None = None
 wanted_of log what now (Some node) =
     if (node.state).is_paused then None else wanted_request node.topology node.packages what (inbox_over log node) now
 
--- The submission is this participant's, the topology is valid, and the packages, the contracts that the participant offers and the submission name only
--- parties of the topology. Under this `Node::prepare` gives the wanted request.
+-- The submission is this participant's, which is one of the topology, the topology is valid, and the packages, the contracts that the participant
+-- offers and the submission name only parties of the topology. Under this `Node::prepare` may be called, and gives the request that is wanted, if one
+-- is.
 pub record CanPrepare (node : NodeValue) (what : Submission) : Type 0 where
   pub own : what.participant ≡ node.me
   pub valid : IsValid node.topology

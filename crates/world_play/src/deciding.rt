@@ -12,7 +12,7 @@ use mediator::Mediator;
 use seq_log::Sequencer;
 use std::alloc::AllocError;
 
-/// The mediator reads the entry at its cursor; where none stands there nothing happens.
+/// The mediator reads the entry at its cursor; where none stands there nothing happens. The log stays. After want of memory the mediator is as before.
 pub fn read_next(mediator: &mut Mediator, sequencer: &mut Sequencer<'_>) -> Result<(), AllocError>
     requires { (m : Machine) × (state : MediatorState) × (n : ℕ) × IsMediator m state n mediator.old sequencer.old }
     ensures log { sequencer.new ≡ sequencer.old }

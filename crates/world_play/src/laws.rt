@@ -13,8 +13,8 @@ ghost use Rattle.world_play.specs.OwnRequests.{IsOwnRequest};
 
 use prepare_request::laws::{faults_have_causes, prepared_requests_are_wanted};
 
-/// A result of a run tells the truth of the transaction that the submission wants over its participant's active contracts at what it had read: a request
-/// that was sent is of that transaction, and a refusal has its cause over these contracts.
+/// What a result of a run says of its submission is so (`IsAnsweredBy`), over the participant's active contracts at what it had read: a request that
+/// was sent is of the transaction that the submission wants over these, and where it wants none the fault has its cause over them.
 pub fn submissions_know_active_contracts()
     ensures { (topology : Topology) (packages : Packages) (capacity now : ℕ) (round : Round) (raws : List Request) (log : List Entry) (end : ℕ)
         (earlier : Results SubmitFault) (what : Submission) (result : SubmitResult SubmitFault)

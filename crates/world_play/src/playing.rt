@@ -21,8 +21,8 @@ use log_row::LogRow;
 use prepare_request::laws::{prepared_requests_are_wanted, prepared_requests_make_a_machine};
 use std::alloc::{AllocError, Global};
 
-/// A new synchroniser, for the topology and packages of `setup`, after these events, in order. An event that finds nothing to do changes nothing. Its log
-/// lies in `row`, and `capacity` is how many places of the log its requests may need in all.
+/// A new synchroniser, for the topology and packages of `setup`, after these events, in order. An event that finds nothing to do changes nothing. Its
+/// log lies in `row`, and `capacity` is how many places of the log its requests may need in all. An Err is want of memory.
 pub fn play<'r>(
     alloc: Global,
     setup: &'r Setup,

@@ -69,7 +69,8 @@ fn read_awake_list(
 }
 
 impl<'r> World<'r> {
-    /// Lets every participant that isn't paused read to the end of the log. After want of memory some have read some of it.
+    /// Lets every participant that isn't paused read to the end of the log. Rules are asked after it, about what was read. After want of memory
+    /// some have read some of it.
     pub fn read_awake(&mut self) -> Result<(), AllocError>
         requires lawful { (m : Machine) × (state : MediatorState) × IsWorldOf m state self.old × Lawful m (world_of state self.old) }
         ensures log { self.new.sequencer ≡ self.old.sequencer }

@@ -56,7 +56,7 @@ fn wanted(
 }
 
 /// The event of a submission: its participant, unless it is paused, hands in the request that the submission wants over what it has read, if it wants
-/// one. A request that the sequencer refuses is dropped. After want of memory the log is as it was.
+/// one. A request that the sequencer refuses is dropped. Of the log after want of memory no clause says anything.
 pub fn submit(
     natives: &NativeList,
     world: &mut World<'_>,

@@ -16,7 +16,8 @@ use node_core::Node;
 use std::alloc::{AllocError, Global};
 use validate_job::{Finished, ValidateJob};
 
-/// Checks all views of a job, one after another, and gives the verdicts on them. A choice that `natives` has is asked of them in place of the language.
+/// Checks all views of a job, of which at least one is left to check, one after another, and gives its place with the verdicts on them. A choice that
+/// `natives` has is asked of them in place of the language. An Err is want of memory.
 pub fn run_job(natives: &NativeList, job: ValidateJob<'_>) -> Result<Finished, AllocError>
     requires { 0 < job.left }
     ensures { IfOk result (IsOutcome job.entry.given) }

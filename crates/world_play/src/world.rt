@@ -59,8 +59,8 @@ impl<'r> World<'r> {
         }
     }
 
-    /// A synchroniser for the topology and packages of `setup`: with an empty log in `row`, a participant for each host, and nothing read. `capacity` is
-    /// how many places of the log its requests may need in all.
+    /// A synchroniser for the topology and packages of `setup`: with an empty log in `row`, a participant for each host, and nothing read. `capacity`
+    /// is how many places of the log its requests may need in all. An Err is want of memory.
     pub fn new(
         alloc: Global,
         setup: &'r Setup,

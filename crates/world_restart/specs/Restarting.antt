@@ -43,8 +43,8 @@ pub record AreRestarted (participants : List ParticipantId) (log : List Entry) (
 abbrev pub bases_after : Reading → Params → List Entry → List ParticipantId → Bases → Bases
 bases_after reading params log participants bases p = if has_place participants p then Base.base params (inbox reading p log) else bases p
 
--- `after` is the same participant as `before`, beside the sequencer's log: that of the same machines, with the same topology and packages, and paused
--- or not as before. It may have read more, or have restarted.
+-- `after` is the same participant as `before`: with the sequencer's log it is one of each machine of which `before` is one. It has the same topology
+-- and packages, and is paused or not as before. It may have read more, or have restarted.
 pub record StaysParticipant (sequencer : Sequenced) (before after : NodeValue) : Type 0 where
   pub topology : after.topology ≡ before.topology
   pub packages : after.packages ≡ before.packages

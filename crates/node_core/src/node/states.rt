@@ -213,8 +213,9 @@ impl<'s> Node<'s> {
         Ok(())
     }
 
-    /// The participant that begins again from a state. It answers every question but `base` and `state` as the one whose state it is would after
-    /// putting back what that hasn't finished (`restarted_participants_are_pruned`).
+    /// The participant that begins again from a state. It answers every question but `state` as the one whose state it is (which is pruned, where the
+    /// state is) would after putting back what that hasn't finished. Responses to requests below the base aren't taken up. Law
+    /// `restarted_participants_are_pruned`.
     pub fn from_state(
         alloc: Global,
         setup: &'s Setup,

@@ -203,9 +203,9 @@ impl<'s> Inbox<'s> {
         knowns_of(alloc, &rows)
     }
 
-    /// The contracts that the participant offers: those with a hosted stakeholder that are active at the cursor, in order of creation.
-    /// Where a contract was created twice they are made into a list, since the store has a contract as it was told first, and not as
-    /// it was created first.
+    /// The contracts that the participant offers: those with a hosted stakeholder that are active at the cursor, in order of creation. They are made
+    /// into a list where a contract may have been created twice, since the store has of it what the first verdict told and not what its first Create
+    /// says.
     pub fn known(&self) -> Result<OfferedContracts<'_>, AllocError>
         ensures { IfOk result (λ o. unwrap_or o.listed (hosted_rows o.stored.hosted.now.ids o.stored.store.now.rows)
             ≡ knowns (active_kept (reading_of self.now) self.now.me self.now.start self.now.items (length self.now.items))) }
@@ -288,7 +288,8 @@ impl<'s> Inbox<'s> {
         )
     }
 
-    /// What the inbox kept, when nobody asks it any more.
+    /// Takes the inbox apart, when nobody asks it any more: all that it kept, without what it borrows. Of these remains nothing can be asked; they are
+    /// dropped, or forgotten by a program that ends, since giving them back piece by piece would take long.
     pub fn into_remains(self) -> InboxRemains {
         let Inbox {
             items,
