@@ -47,7 +47,8 @@ are_listed listed above k (InnerVertex informees contents subviews others) =
 abbrev pub answered : Bool → Result Bool WireFault
 answered b = Ok b
 
--- The fault that something which is asked for isn't there. Its place is 0.
+-- The fault that something which is asked for isn't there: it is blinded, stands nowhere in the tree, or has something below it that isn't listed. The
+-- place 0 that Bad has here is that of no byte, and nothing comes of it: `open_or_missing` makes Missing of every fault.
 abbrev pub missing : {A : Type 0} → Result A WireFault
 missing = Err (Bad 0)
 

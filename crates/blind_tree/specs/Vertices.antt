@@ -4,8 +4,8 @@ use Rattle.std.proofs.Common.{◌∙◌, ap, inl, inr}
 use Rattle.std.specs.Coded.{Coded, code_by, coded_list, codes}
 use Rattle.blind_tree.specs.declared.leaf.Leaf.{Leaf}
 
--- Vertices of a tree side by side: none, or a first one that shows its hash alone, or one that shows its two leaves and what stands below it; and those
--- after it.
+-- Vertices of a tree side by side: none, or a first one and those after it (`others`). The first one either shows its hash alone, or has its two leaves
+-- and the vertices below it (`subviews`). Each of the two leaves shows its bytes with their salt, or its hash alone.
 pub data Vertices : Type 0 where
   NoVertices : Vertices
   BlindVertex : (hash : List ℕ) (others : Vertices) → Vertices

@@ -13,7 +13,8 @@ use hash_id::{tree_hash, view_hash};
 use ledger_terms::Hash;
 use std::alloc::{AllocError, Global};
 
-/// The root hash of a tree: all trees of one transaction have the same, whatever each shows. Err is want of memory.
+/// The root hash of a tree, the same whatever the tree shows. At most 65,536 vertices may stand side by side in it, at the top and below each
+/// (`IsNarrow`). Err is want of memory.
 pub fn root_of(alloc: Global, tree: &Tree) -> Result<Hash, AllocError>
     requires { IsNarrow tree.now.views }
     ensures { IfOk result (λ hash. hash ≡ hash_of_root sha256 tree.now) }
@@ -25,7 +26,8 @@ pub fn root_of(alloc: Global, tree: &Tree) -> Result<Hash, AllocError>
     Ok(tree_hash(&common, &requesters, views.as_slice()))
 }
 
-/// Whether `root` is the root hash of a tree. Err is want of memory.
+/// Whether `root` is the root hash of a tree, so that an envelope can be told from one of another request. At most 65,536 vertices may stand side by
+/// side at the tree's top and below each vertex (`IsNarrow`). Err is want of memory.
 pub fn verify(alloc: Global, tree: &Tree, root: &Hash) -> Result<bool, AllocError>
     requires { IsNarrow tree.now.views }
     ensures { IfOk result (λ same. Decides same (root.now ≡ hash_of_root sha256 tree.now)) }

@@ -135,7 +135,8 @@ decision_time_in params items m = item_time (slice_get items m) + params.respons
 abbrev pub is_decided_in : Params → List Item → (request place : ℕ) → Bool
 is_decided_in params items m k = is_decided_at (moments items) m (decision_time_in params items m) k
 
--- the outcome, over all these items, of the request at place m
+-- The outcome, over all these items, of the request at place m: the decision of its first verdict, or without one Expired or Undecided. At a place
+-- where no request was received it says nothing; `outcome_received` is None there.
 abbrev pub outcome_in : Params → List Item → ℕ → Outcome
 outcome_in params items m = outcome_of (moments items) m (decision_time_in params items m)
 

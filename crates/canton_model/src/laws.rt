@@ -72,7 +72,7 @@ pub fn status_is_shared()
 {}
 
 /// In a genuine log without collisions the log of participant p up to its clean place, when it has read n entries, is the projection to its hosted
-/// parties of the ledger without the places that are withheld from it.
+/// parties of the ledger below that place, without the places that are withheld from p.
 pub fn node_log_is_projection()
     ensures { (reading : Reading) (params : Params) (log : List Entry) (p : ParticipantId) (n : ℕ)
         → IsReading reading

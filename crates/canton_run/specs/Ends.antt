@@ -78,8 +78,7 @@ Did may (jobs.Dump workers log) left left' finish text = RanScript may (jobs.Dum
 abbrev pub Ran : Answers → List (List ℕ) → Option (List ℕ) → Option (List ℕ) → Finish → List ℕ → Type 0
 Ran may words left left' finish text = (job : Job) × (job_of words ≡ Some job) × Did may job left left' finish text
 
--- an audit of the bytes `dump` says yes, with how many entries the log of `finish` has, and how many approved requests; so an audit of a run's dump
--- ends
+-- an audit of the bytes `dump` says yes, with how many entries the log of `finish` has, and how many approved requests; so the dump of a run is audited
 abbrev pub IsJudgedYes : Finish → (dump : List ℕ) → Type 0
 IsJudgedYes finish dump = IsAudit script_of most_of standard_of dump (Yes (length finish.log) (approved_in finish.log))
 

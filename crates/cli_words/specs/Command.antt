@@ -39,7 +39,8 @@ words_app =
 unfoldable pub words_fault : List Text → Kinds
 words_fault words = fault_of words_app words
 
--- what `clap` reads the words as: a row for each argument that they give, with its text. A proof compares it with `arguments_of`.
+-- What `clap` reads the words as, where it takes them, that is where `words_fault` is empty: a row for each argument that they give, with its text.
+-- Where it finds an error, the rows stand for nothing. A proof compares them with `arguments_of`.
 unfoldable pub words_rows : List Text → List Row
 words_rows words = matches_of words_app words
 

@@ -34,8 +34,9 @@ pub record Roomy : Type 0 where
 abbrev pub is_listed : ℕ → List ℕ → Bool
 is_listed call calls = list_any (λ c. c == call) calls
 
--- What a call of `put`, offered the bytes `from`, makes of the sink `store` in memory, which is store' afterwards. It counts as one call more and
--- leaves the most that a call takes; an Ok says that it took that many bytes, or all of `from` where these are fewer.
+-- What is said of a call of `put`, offered the bytes `from`, on the sink `store` in memory, which is store' afterwards, besides what becomes of the
+-- bytes held: it counts as one call more and leaves the most that a call takes; an Ok says that it took that many bytes, or all of `from` where these
+-- are fewer. Of an Err nothing more is said.
 abbrev pub PutsPiece : {E : Type 0} → Store → List ℕ → Result ℕ E → Store → Type 0
 PutsPiece store from result store' =
     (store'.calls ≡ counted store.calls) × (store'.piece ≡ store.piece) × IfOk result (λ n. n ≡ min (length from) store.piece)

@@ -14,7 +14,7 @@ use Rattle.lang_eval.specs.Parts.{PartyNames, parties_of_created, parties_of_cho
 use Rattle.lang_eval.specs.Language.{parties_if_typed, signatories_in, observers_in}
 use Rattle.interpret.specs.Sizes.{is_small_instance, are_small_args}
 
--- the signatories of parties that were evaluated, or the fault
+-- the signatories among a contract's parties as an evaluation gave them, or its fault
 abbrev pub signatories_of : Result ContractParties EvalFault → Result PartyNames EvalFault
 signatories_of (Ok p) = Ok p.signatories
 signatories_of (Err e) = Err e

@@ -14,7 +14,7 @@ use Rattle.lang_check.specs.Faults.{Place, ◌>>=◌, tried}
 use Rattle.lang_check.specs.Walk.{expr_at}
 use Rattle.lang_check.specs.Statements.{is_among, stmts_from}
 
--- the names that were declared so far
+-- a list of names: those that were declared so far, or those of fields, parameters or templates that are still to be tried
 abbrev pub NameLists : Type 0
 NameLists = List (List ℕ)
 

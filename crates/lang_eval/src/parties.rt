@@ -1,4 +1,4 @@
-//! The tests of a Create and of an Exercise before its body, but for sizes.
+//! The evaluations of a Create and of an Exercise before its body. Sizes, kinds of fields and arguments, and authority are tried elsewhere.
 ghost use Rattle.std.specs.Prelude.{◌≡◌, Ok, Err, cond};
 ghost use Rattle.ledger_terms.specs.Answers.{UnlessMemory};
 ghost use Rattle.ledger_terms.specs.ExprForms.{expr_form};
@@ -163,8 +163,8 @@ pub fn parties_of_contract(
 }
 
 /// The signatories and observers of a contract that is to be created. An Err is Ensure where the template's `ensure` is false, which is tried first,
-/// NoSignatory where nobody signs, Assert where the template isn't there, another fault of an evaluation, or want of memory. The size of the instance
-/// is left to the caller.
+/// NoSignatory where nobody signs, Assert where the template isn't there, another fault of an evaluation, or want of memory. Sizes and the number and
+/// kinds of the fields are left to the caller.
 #[tactic(auto, unfolding(crate::specs::Parts::parties_of_created))]
 pub fn parties_of_created(
     alloc: Global,

@@ -31,8 +31,8 @@ fn read_decl(value: &Value, at: &Place) -> Result<FieldDecl, WalkFault>
     Ok(FieldDecl { name, kind })
 }
 
-/// The declarations in the member `fields` of the template that is `value` at the place `at`: Shape where that member is absent or no list, Limit
-/// where there are too many.
+/// The declarations in the member `fields` of the template that is `value` at the place `at`, in order: Shape where that member is absent or no list,
+/// Limit where it has more than 12 items, else the first fault of an item, which has to be an object with `name` and `type` alone.
 #[tactic(auto, unfolding(crate::specs::Packages::fields_in))]
 pub fn fields_in(alloc: Global, value: &Value, at: &Place) -> Result<FieldDeclList, WalkFault>
     ensures { Follows WalkFault.Memory result (fields_in at.now (view value.now)) }

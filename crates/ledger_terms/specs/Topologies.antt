@@ -33,7 +33,8 @@ pub record IsObserving (hosts : List Host) (host : Host) : Type 0 where
   pub confirmed : All (λ (party : List ℕ). list_any (lists_party party) hosts ≡ true) host.observing
 
 -- A synchroniser can be made for this topology: it has 1 to 8 participants with different names, which confirm for at most 128 parties, each party at
--- one participant, and may observe parties of others; and its times are in their ranges.
+-- one participant, and may observe parties for which others confirm; all names have the form of names, and each list of parties rises strictly; and its
+-- times are in their ranges.
 pub record IsValid (topology : Topology) : Type 0 where
   pub some_host : 1 ≤ length topology.hosts
   pub few_hosts : length topology.hosts ≤ MOST_PARTICIPANTS

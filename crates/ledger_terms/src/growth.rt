@@ -3,8 +3,8 @@ ghost use Rattle.std.specs.Prelude.{◌≡◌, ◌++◌, ◌∷◌, [], OnOk, On
 
 use std::alloc::AllocError;
 
-/// Makes room for one more item of a vector: for one at first, since most lists of a ledger have no more, and then for twice as many. An error says
-/// that there is no memory, and leaves the vector as it was.
+/// Makes room for one more item of a vector that has none left: for one at first, since most lists of a ledger have no more, and then for twice as
+/// many. An error says that there is no memory, and leaves the vector as it was.
 pub fn make_room<T>(items: &mut Vec<T>) -> Result<(), AllocError>
     ensures { items.new.items ≡ items.old.items }
 {
@@ -15,7 +15,7 @@ pub fn make_room<T>(items: &mut Vec<T>) -> Result<(), AllocError>
     items.reserve_exact(if len == 0 { 1 } else { len })
 }
 
-/// Puts an item at the end of a vector that grows from one item. An error leaves it as it was.
+/// Puts an item at the end of a vector, for which `make_room` makes the room. An error says that there is no memory, and leaves the vector as it was.
 pub fn push_closely<T: Drop>(items: &mut Vec<T>, item: T) -> Result<(), AllocError>
     ensures ok { OnOk result (items.new.items ≡ items.old.items ++ item ∷ []) }
     ensures err { OnErr result (items.new.items ≡ items.old.items) }

@@ -26,8 +26,8 @@ pub fn in_range_is_spellable()
     ensures logs { (most : ℕ) → IsEnoughFor (IsLog most) IsSpellableLog }
 {}
 
-/// A genuine log of fewer than 2^32 entries whose requests have room for their spelling has a spelling: what participants owe and the mediator
-/// decides has room then, too.
+/// A genuine log of fewer than 2^32 entries has a spelling where each of its requests has room in one, with the responses to it (`HasRoom`). For what
+/// participants owe and what the mediator decides has room then, too.
 pub fn genuine_logs_are_spellable()
     ensures { (reading : Readings) (params : Params) (log : List Entry)
         → IsReading reading

@@ -56,7 +56,7 @@ reason_at bytes = do
   number ← byte_at bytes
   numbered_reason_at number.0 number.1 (length bytes)
 
--- the parts of a rejection: the reason, and the number of the action
+-- the parts of a rejection: the reason, and the action's place in the core of its view
 abbrev pub RejectParts : Type 0
 RejectParts = Reason × ℕ
 

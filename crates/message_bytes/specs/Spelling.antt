@@ -42,7 +42,7 @@ reason_number WrongCommon = 13
 abbrev pub spell_reason : Reason → List ℕ
 spell_reason reason = reason_number reason ∷ []
 
--- The bytes of a local verdict: the tag 0 of an approval, or the tag 1 with the reason and two bytes for the action's number.
+-- The bytes of a local verdict: the tag 0 of an approval, or the tag 1 with the reason and two bytes for the action's place in its view's core.
 abbrev pub spell_local : LocalVerdict → List ℕ
 spell_local Approve = 0 ∷ []
 spell_local (Reject reason action) = 1 ∷ (spell_reason reason ++ to_be_bytes w16 action)

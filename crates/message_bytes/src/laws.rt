@@ -14,7 +14,8 @@ pub fn none_begins_another()
     ensures verdicts { (most : ℕ) → NoneBeginsAnother spell_verdict (IsVerdict most) }
 {}
 
-/// Each path, response and verdict in range has one spelling: the bytes that are read as it are its spelling, and its spelling is read as it.
+/// Each path, response and verdict in range has one spelling: the bytes that are read as it are its spelling, and its spelling is read as it. `most` is
+/// the greatest number that a participant may have in a response or a verdict.
 pub fn one_spelling()
     ensures paths { HasOneSpelling spell_path IsPath path_at }
     ensures responses { (most : ℕ) → HasOneSpelling spell_response (IsResponse most) (response_at most) }

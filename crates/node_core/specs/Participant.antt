@@ -98,7 +98,9 @@ pub record CanRead (p : Participant) (list : List Entry) : Type 0 where
 abbrev pub owes_there : Participant → ℕ → Bool
 owes_there p k = owes_at (reading_of p) p.me (items_of p) k
 
--- The verdicts that it owes to the request at place k, by what it knew when it had read that entry; an empty list where no request was received there.
+-- The verdicts that it owes to the request at place k, decided or not, by what it knew when it had read that entry. From the base on they are those of
+-- its whole inbox. An empty list where no request was received there or it confirms no view of it, and at every place below its base, where its items
+-- are silent.
 abbrev pub owed_there : Participant → ℕ → List ViewVerdict
 owed_there p k = owed_kept (reading_of p) (params_of p) p.me p.start (items_of p) k
 

@@ -284,15 +284,16 @@ impl<'s> Node<'s> {
         prepare_request::prepare(self.setup, natives, self.me, &known, what, now)
     }
 
-    /// The commits of the approved requests below the clean place, as they are opened to it, without those of which nothing is.
+    /// The commits of the approved requests from the base on and below the clean place, as they are opened to the participant, without those of which
+    /// nothing is opened.
     pub fn applied(&self, alloc: Global) -> Result<CommitList, AllocError>
         ensures { IfOk result (λ commits. commits ≡ node_log (params_of self.now) (items_of self.now)) }
     {
         self.inbox.applied(alloc)
     }
 
-    /// The commits of the approved requests below the clean place, as they are opened to it, without those of which nothing is. They are made of the
-    /// participant itself: actions that nobody else looks at are moved and not copied.
+    /// The commits of the approved requests from the base on and below the clean place, as they are opened to the participant, without those of which
+    /// nothing is opened. They are made of the participant itself: actions that nobody else looks at are moved and not copied.
     pub fn into_applied(self) -> Result<CommitList, AllocError>
         ensures { IfOk result (λ commits. commits ≡ node_log (params_of self.entry) (items_of self.entry)) }
     {
@@ -300,7 +301,8 @@ impl<'s> Node<'s> {
         inbox.into_applied()
     }
 
-    /// The places that are withheld from it, ascending: approved requests below the clean place of which it sees a view and has no complete envelope.
+    /// The places that are withheld from the participant, ascending: approved requests from its base on and below the clean place of which it sees a
+    /// view and has no complete envelope.
     pub fn withheld(&self) -> Result<U64List, AllocError>
         ensures { IfOk result (λ places. places ≡ withheld (params_of self.now) (items_of self.now)) }
     {

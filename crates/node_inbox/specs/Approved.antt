@@ -21,7 +21,8 @@ use Rattle.node_inbox.specs.declared.kept_item.KeptRequest.{KeptRequest}
 abbrev pub TellsOutcomes : Params → List Item → Registered → Type 0
 TellsOutcomes params items stands = (k : ℕ) → outcome_at (stands.tracking).pairs k ≡ outcome_received params items k
 
--- Each request that these items keep has as its changes those among the authentic actions that its envelope opens.
+-- What is kept as the changes of each request among these items are the Creates and consuming Exercises among the authentic actions that its envelope
+-- opens, in pre-order.
 abbrev pub KeepChanges : List KeptItem → Type 0
 KeepChanges items = (k : ℕ) (request : KeptRequest) → kept_at items k ≡ Some request → (request.changes).items ≡ opened_changes request.offer
 

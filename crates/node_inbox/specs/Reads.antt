@@ -39,8 +39,9 @@ pub record IsUnread (topology : Topology) (packages : Packages) (me : Participan
 abbrev pub kept_with : KeptRequest → Registered → KeptRequest
 kept_with kept stands = record kept { facts = map (fact_in stands) kept.facts }
 
--- The registry after the request at a place got its outcome: the changes are written into the store, the request holds nothing any more, the tracker
--- has the outcome, and all else is as it was.
+-- The registry after the request at a place got this outcome: these changes, which are those of the request where it is approved and else none, are
+-- written into the store, the request holds nothing any more, the tracker has the outcome, and all else is as it was. That the changes are these is for
+-- the caller to see to.
 pub record IsSettled (old new : Registered) (place : ℕ) (outcome : Kind) (changes : List Change) : Type 0 where
   pub rows : (new.store).rows ≡ write_changes place changes (old.store).rows
   pub holds : (new.store).holds ≡ released place (old.store).holds

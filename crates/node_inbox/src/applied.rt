@@ -127,8 +127,9 @@ fn opened_of(alloc: Global, items: &KeptItems, places: &[u64]) -> Result<CommitL
     Ok(commits)
 }
 
-/// The commits of the approved requests below the place `end`, as they are opened, without those of which nothing is. `approved` has the first of their
-/// places, so that only the places behind these are gone through. `setup` is there for the contract alone.
+/// The commits of the approved requests below the place `end`, as they are opened, without those of requests of which nothing is opened. `approved` has
+/// the places of all approved requests below its `below`: where that is at most `end` only the places from `below` on are gone through, and else all
+/// from 0 on. `setup` is there for the contract alone.
 pub fn applied(
     alloc: Global,
     setup: &Setup,

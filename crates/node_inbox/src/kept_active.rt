@@ -15,7 +15,8 @@ pub struct KeptActive {
 }
 
 impl KeptActive {
-    /// Whether a place comes so long after that of these contracts that to go through the entries between takes longer than to copy the contracts.
+    /// Whether a place comes so long after that of these contracts that to go through the entries between takes longer than to copy the contracts. An
+    /// inbox that has decided all up to there then keeps the active contracts at that place instead of these.
     pub fn is_far(&self, place: u64) -> bool {
         is_far(self.place, self.rows.len(), place)
     }

@@ -52,7 +52,7 @@ fn push_row(
     }
 }
 
-/// The contracts of these rows that are neither consumed nor gone by the start, in the order of the rows.
+/// The active contracts of these rows, each with the place where it was created, but those that are gone by the start; in the order of the rows.
 pub fn left_in(
     alloc: Global,
     start: &KeptStart,

@@ -86,8 +86,8 @@ fn push_if_withheld(
     Ok(())
 }
 
-/// The withheld places below the place `end`, ascending. `approved` has the first places of approved requests, so that only the places behind these are
-/// gone through. `setup` is there for the contract alone.
+/// The withheld places below the place `end`, ascending. `approved` has the places of all approved requests below its `below`: where that is at most
+/// `end` only the places from `below` on are gone through, and else all from 0 on. `setup` is there for the contract alone.
 pub fn withheld(
     alloc: Global,
     setup: &Setup,

@@ -30,7 +30,8 @@ impl Sheet {
         self.y = self.y.saturating_add(height);
     }
 
-    /// Draws words as one line. Where they are wider than `letters` letters they are cut, and have the whole text as their title.
+    /// Draws `words` as one line, where `label` says and with its look; `y` stays. Where they are wider than `letters` letters, of which a character
+    /// from U+1100 on counts as two, they are cut, with an ellipsis at the end, and have the whole text as their title.
     pub fn words(&mut self, label: &Label, words: &str, letters: u32) -> Result<(), AllocError> {
         if fits(words, letters) {
             return self.svg.text(label, words);

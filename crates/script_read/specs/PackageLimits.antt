@@ -137,7 +137,9 @@ pub record AreSmall (packages : Packages) : Type 0 where
   pub few_templates : sum_by (λ (p : PackageForm). length p.templates) packages ≤ MOST_TEMPLATES
   pub templates : All (λ (p : PackageForm). All IsSmallTemplate p.templates) packages
 
--- The packages are what is built in with packages `given` that keep the limits, and they name only parties for which one of `hosts` confirms.
+-- The packages are what is built in, Note and the choice Archive of each template, with packages `given` that keep the limits, and they name only
+-- parties for which one of `hosts` confirms. The packages of every script that is read without a fault are so. That they are well typed isn't said here
+-- but by `AreChecked`.
 pub record AreAccepted (hosts : List Host) (packages : Packages) : Type 0 where
   pub given : Packages
   pub built_in : packages ≡ checked_packages given

@@ -1,5 +1,5 @@
 -- Scripts: the script that bytes spell, or its first fault. `hosts` is the topology, and `d` the JSON value of the script, but in `counted_package`
--- that of one package at the place `at`.
+-- that of one package and in `packages_if` that of the list of packages, each at the place `at`.
 use Rattle.std.specs.Prelude.{ℕ, ◌+◌, Bool, List, [], ◌∷◌, length, Option, Some, None, Result, Ok, Err, codes}
 use Rattle.serde_json.specs.Data.{Data}
 use Rattle.serde_json.specs.Find.{get}

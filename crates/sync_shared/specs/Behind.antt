@@ -28,9 +28,9 @@ pub record IsLogBehind (row : RowName) (m : Machine) (start : List Entry) (total
   pub is_for : IsFor m sequencer
   pub behind : LogBehind m start total sequencer.list
 
--- What holds of the node behind the lock of participant p: it is that participant of the machine m, has read the entries `list`, a genuine log, and
--- keeps its inbox of them from its base on, which is `bases p`. `why` is as `IsSetUp` asks. That `list` begins the sequencer's log is said in
--- `AreNodesBehind`.
+-- What holds of the node behind the lock of participant p: it is participant p of the machine m, which with `why` is that of this valid topology and
+-- these packages (`IsSetUp`). It has read the entries `list`, a genuine log, keeps its inbox of them from its base `bases p` on, and owes verdicts to
+-- each request to which a response waits. That `list` begins the sequencer's log is said in `AreNodesBehind`.
 pub record IsNodeBehind (topology : Topology) (packages : Packages) (m : Machine) (why : Why SubmitFault) (bases : Bases) (p : ParticipantId)
     (list : List Entry) (node : NodeValue) : Type 0 where
   pub set_up : IsSetUp topology packages m why

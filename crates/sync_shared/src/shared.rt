@@ -153,9 +153,9 @@ impl<'r, S: Session> Shared<'r, S> {
         names(self.round.paused.as_slice(), participant)
     }
 
-    /// Submits for the client's participant, which first reads at least what the client has seen. A paused one doesn't read, and refuses as Paused. The
-    /// ticket is that of the request that was appended; an Err says why none was, and how many entries had been read. After want of memory nothing was
-    /// appended. `rt` is what the thread waits by at the locks.
+    /// Submits for the client's participant, which first reads at least what the client has seen; a paused one doesn't read, and refuses as Paused. The
+    /// ticket is that of the request that was appended. An Err says why none was, and how many entries had been read, or seen by the client of a paused
+    /// one; after want of memory nothing was appended. `rt` is what the thread waits by at the locks.
     pub fn submit<R: Wait>(
         &self,
         rt: &R,

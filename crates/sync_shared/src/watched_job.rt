@@ -75,8 +75,9 @@ impl<'a, 'r, S: Session, R: Wait, G: Gate, const I: u8> Future for WatchedJob<'a
     }
 }
 
-/// Checks all views of the job that participant `I` has claimed, and gives the verdicts on them. The job is cancelled once its participant has read that
-/// the request is decided: then the result is None, and nothing comes of the job but its claim. The gate is passed before each view.
+/// Checks all views of the job that participant `I` has claimed, and gives the verdicts on them. The job is cancelled once its participant has read
+/// that the request is decided: then the result is None, and nothing comes of the job but its claim. The gate is passed before each view. An Err is
+/// want of memory, or that no executor for the check was to be had.
 pub fn run_job<'r, S: Session, R: Wait + RandomSource + AllocGlobal, G: Gate, const I: u8>(
     rt: &R,
     lock: &Mutex<LockedNode<'r, S, I>>,

@@ -29,7 +29,8 @@ AreRounds number now (x ∷ xs) (y ∷ ys) =
     (y ≡ fired_round number (now + x.round.advance) x y.caused) × (x.caused ≡ submissions_in y.caused)
     × AreRounds (suc number) (now + x.round.advance) xs ys
 
--- No submission and no raw request of the round has an id that is kept for one of these rules of its participant or sender.
+-- No submission and no raw request of the round has a command whose id is kept for one of these rules of its participant or sender, that is the rule's
+-- name, a hyphen and a number. So requests with such ids are those of rules (law `requests_are_caused`).
 pub record HasOwnIds {F : Type 0} (rules : List Rule) (x : RoundParts F) : Type 0 where
   pub submits : All (λ (what : Submission). is_rule_command rules what.participant what.command ≡ false) x.round.submits
   pub raws : All (λ (request : Request). is_rule_command rules request.sender request.command ≡ false) x.round.raws

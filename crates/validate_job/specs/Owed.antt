@@ -5,7 +5,9 @@ use Rattle.canton_model.specs.declared.view_verdict.ViewVerdict.{ViewVerdict}
 use Rattle.confirm_reply.specs.Verdict.{verdict_of}
 use Rattle.confirm_reply.specs.declared.check_input.CheckInput.{CheckInput}
 
--- the path of a view with the model's verdict on that view, by what the check goes by
+-- The path of a view with the local verdict that a participant's check gives on that view (`verdict_of`). The check goes by `input`: the setup, the
+-- participant and the sender, the time of the request's entry, what the participant is shown, and what it knows of the contracts in that. Whether it
+-- confirms the view isn't asked.
 abbrev pub owed_on : CheckInput → Path → ViewVerdict
 owed_on input path = record { view = path; verdict = verdict_of input path }
 

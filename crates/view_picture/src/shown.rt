@@ -13,8 +13,9 @@ use std::alloc::{AllocError, Global};
 /// How wide what is shown is, in units.
 const WIDTH: u32 = 800;
 
-/// The lines and chips by which a picture shows what the request at a place discloses to the participant `me`, without boxes. They stand as if the
-/// picture began at the left edge. Where it discloses nothing, a line says so.
+/// What a page shows participant `me` of a request: lines of text, and chips, which are small signs that name who sees a view and what they do with it.
+/// They are those of a picture for `me`, without its boxes and the line that names the request, from the left edge on. Where nothing is disclosed to
+/// `me`, one line says so; `place` has no effect.
 pub fn shown_pieces(
     alloc: Global,
     topology: &Topology,

@@ -261,7 +261,9 @@ pub fn outcome_stays()
         → outcome_of (timeline_of (log ++ more)) k after ≡ Decided d }
 {}
 
-/// In a genuine settled log whose verdicts aren't held, the request at place k is approved if nothing hinders it (`Unhindered`).
+/// In a genuine settled log whose verdicts aren't held, the request at place k is approved if nothing hinders it (`Unhindered`): each participant that
+/// it asks is there, isn't paused and owes only approvals; no Tick stands after it; and the entries from it on are at most as many as the response
+/// timeout has microseconds.
 pub fn unhindered_is_approved()
     ensures { (m : Machine) (paused : List ParticipantId) (log : List Entry) (k : ℕ)
         → IsReading m.reading

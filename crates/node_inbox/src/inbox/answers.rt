@@ -244,7 +244,7 @@ impl<'s> Inbox<'s> {
         job(alloc, self.setup, self.me, &self.items, place)
     }
 
-    /// The commits of the approved requests below the clean place, as they are opened, without those of which nothing is.
+    /// The commits of the approved requests from the base on and below the clean place, as they are opened, without those of which nothing is opened.
     pub fn applied(&self, alloc: Global) -> Result<CommitList, AllocError>
         ensures { IfOk result (λ commits. commits ≡ node_log (params_of self.now) self.now.items) }
     {
@@ -258,8 +258,8 @@ impl<'s> Inbox<'s> {
         )
     }
 
-    /// The commits of the approved requests below the clean place, as they are opened, without those of which nothing is. They are made of the inbox
-    /// itself: actions that nobody else looks at are moved and not copied.
+    /// The commits of the approved requests from the base on and below the clean place, as they are opened, without those of which nothing is opened.
+    /// They are made of the inbox itself: actions that nobody else looks at are moved and not copied.
     pub fn into_applied(self) -> Result<CommitList, AllocError>
         ensures { IfOk result (λ commits. commits ≡ node_log (params_of self.entry) self.entry.items) }
     {
@@ -274,7 +274,7 @@ impl<'s> Inbox<'s> {
     }
 
     /// The places that are withheld from the participant, ascending: approved requests below the clean place of which it sees a view and has no
-    /// complete envelope.
+    /// complete envelope. Those below the base are forgotten and not among them.
     pub fn withheld(&self) -> Result<U64List, AllocError>
         ensures { IfOk result (λ places. places ≡ withheld (params_of self.now) self.now.items) }
     {
