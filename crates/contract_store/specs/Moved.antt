@@ -13,8 +13,9 @@ among n None = None
 among n (Some i) = if nat_lt i n then Some i else None
 
 module _ {K : Type 0} (eq : K → K → Bool) where
-  -- What holds between two steps of that move of the chains by one kind of key, ids or places: `moved` are the live ones of the items before index
-  -- `next`, and `leads` leads from each key to the last moved item with it, or where there is none to a live one that is still to be looked at.
+  -- What holds of the chains by one kind of key, ids or places, between two steps of that move. A chain leads from each hold to an earlier one with the
+  -- same key (`Link`, `Chains`). `links` are the holds before the move, `moved` those moved so far, and `leads` leads from each key to the last moved
+  -- one with it, or where there is none to a live one that is still to be looked at, from index `next` on. `eq` compares keys.
   pub record HalfMoved (links : List (Link K)) (next : ℕ) (moved : List (Link K)) (leads : K → Option ℕ) : Type 0 where
     pub chains : Chains eq moved (λ k. among (length moved) (leads k))
     pub places : (k : K) (i : ℕ) → leads k ≡ Some i → (i < length moved) ⊎ (next ≤ i)

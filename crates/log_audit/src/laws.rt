@@ -1,4 +1,4 @@
-//! What a yes says, as the clauses of functions that do nothing.
+//! What a yes says, and which logs can be dumped and are judged yes, as the clauses of functions that do nothing.
 ghost use Rattle.std.specs.Prelude.{◌≡◌, ◌-◌, ◌<◌, ◌≤◌, ◌^◌, ℕ, true, List, Ok, Some, All, length};
 ghost use Rattle.ledger_terms.specs.declared.topology.Topology.{Topology};
 ghost use Rattle.ledger_model.specs.Authority.{is_commit_authorised};
@@ -89,8 +89,9 @@ pub fn genuine_logs_are_judged_yes()
         → IsAudit script_of most_of standard_of (spell_dump bytes log) (Yes (length log) (approved_in log)) }
 {}
 
-/// In the log of a run with rules each request of a rule is what that rule may cause, where neither submissions nor raw requests have a rule's id,
-/// and each request of a submission that a rule caused was prepared for that submission.
+/// In the log of a run with rules each request of a rule is what that rule may cause, where no submission and no raw request has a command whose id is
+/// kept for a rule, and each request of a submission that a rule caused was prepared for it. `answer` says what a rule does about a contract, `fired`
+/// has each round as rules see it. So its dump is judged yes (`genuine_logs_are_judged_yes`).
 pub fn runs_use_rules_rightly<F, A: Answering>()
     ensures { (m : Machine) (why : Why F) (answer : A) (script : Script) (log : List Entry) (rounds : List (RoundParts F)) (fired : List FiredRound)
         → IsMachine m

@@ -40,7 +40,8 @@ impl<'r, S: Session> Model for LockedLog<'r, S> {
 }
 
 impl<'r, S: Session> LockedLog<'r, S> {
-    /// A sequencer, to lie behind a lock, with the book that counts what comes into its log.
+    /// A sequencer, to lie behind a lock, with the book that counts what comes into its log. Its log has to be genuine, within its capacity and as long
+    /// as the book says (`IsLogBehind`).
     pub fn of(sequencer: Sequencer<'r>, count: Book<S>) -> LockedLog<'r, S>
         requires { IsLogBehind S.history S.machine S.start count.total sequencer }
         ensures { result ≡ sequencer.entry.list }

@@ -13,7 +13,7 @@ use Rattle.view_split.specs.Faults.{fault_at}
 use Rattle.view_split.specs.declared.begun.Begun.{Begun}
 
 -- A walk over these trees makes of the begun view `old`, which stands above them, the view `new`: confirmers come to its own, views to those below it,
--- and children to its core, whose children were `before` and are `after`.
+-- and children to those of the action directly above the trees, which were `before` and are `after`.
 pub record IsWalked (roles : Action → Roles) (trees : Forest Act) (old new : Begun) (before after : Holed Act) : Type 0 where
   pub informees : new.informees ≡ old.informees
   pub confirmers : new.confirmers ≡ with_parties (confirmers_in roles (inner (core_of roles old.informees trees))) old.confirmers

@@ -59,7 +59,7 @@ read_at m log what n = inbox m.reading what.participant (take n log)
 abbrev pub wanted_at : Machine → (now : ℕ) → List Entry → Submission → ℕ → Option Request
 wanted_at m now log what n = m.prepare what (read_at m log what n) now
 
--- the log after a round's Tick; the log as it was where time doesn't move on in the round
+-- The log after a round's Tick, which has the time `now` after the round's advance; the log as it was where time doesn't move on in the round.
 abbrev pub ticked : Machine → (now : ℕ) → Round → List Entry → List Entry
 ticked m now round log = if nat_eq round.advance 0 then log else sequenced m now log Tick
 
@@ -191,7 +191,8 @@ RoundsHold m why now log start raws earlier (x ∷ rest) =
     (start ≤ x.end) × RoundHolds m why (now + x.round.advance) x.round (raws ++ x.round.raws) earlier x.results (take start log) (take x.end log)
     × RoundsHold m why (now + x.round.advance) log x.end (raws ++ x.round.raws) (earlier ++ x.results) rest
 
--- A run is right, with any number of workers: its log is genuine and within the capacity, and consists of the parts of its rounds, which are right.
+-- A run is right, with any number of workers: its log is genuine and within the capacity, and consists of the parts of its rounds, which are right. In
+-- a run with rules each of a round's two parts counts as a round here.
 pub record RunHolds {F : Type 0} (m : Machine) (why : Why F) (log : List Entry) (rounds : List (RoundAnswers F)) : Type 0 where
   pub genuine : GenuineLog m log
   pub within_capacity : reserved log ≤ m.capacity
