@@ -189,8 +189,9 @@ pub fn each_outcome_has_its_cause()
         → LocalCauseOf reading params log j (outcome_of (timeline_of log) j (decision_time_of params log j)) }
 {}
 
-/// In a genuine log without collisions a rejection of the request at place j as Inactive or NotFresh says besides what is so of the contract's status
-/// by the ledger, or, as Inactive, something is withheld from the participant that rejects.
+/// In a genuine log without collisions the outcome of the request at place j says what `each_outcome_has_its_cause` has, and a rejection more. As
+/// Inactive: an action of the view's core uses a contract that isn't active by the ledger below j and that none opened before it creates, or something
+/// below j is withheld from who rejects. As NotFresh: one of the core creates a contract that isn't unknown by the ledger below j.
 pub fn each_rejection_holds_of_the_ledger()
     ensures { (reading : Reading) (params : Params) (log : List Entry) (j : ℕ)
         → IsReading reading
@@ -282,7 +283,9 @@ pub fn recipients_learn_outcomes()
         → outcome_in params (inbox reading p log) k ≡ outcome_of (timeline_of log) k (decision_time_of params log k) }
 {}
 
-/// A genuine log without collisions meets the premises `Opened` and `Checked` of the law `one_ledger`.
+/// In a genuine log without collisions the requests meet the first and the third premise of the law `one_ledger`. `Opened`: what is opened of an
+/// approved request is part of its whole, and each participant that guards a contract is opened each authentic action on it. `Checked`: each action of
+/// an approved request was passed by each guard of its contract, who confirms a signatory of it (`is_guard`).
 pub fn genuine_logs_are_evidence()
     ensures opened { (reading : Reading) (params : Params) (log : List Entry)
         → IsReading reading

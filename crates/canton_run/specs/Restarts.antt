@@ -31,7 +31,8 @@ begins_in rounds ends = begins_of 0 (map (λ (round : Round). round.restarts) ro
 abbrev pub bases_in : Script → List Entry → List RoundBegin → Bases
 bases_in script log begins p = base_or_first (pruned_to (reading_for script) (params_of script) log begins p)
 
--- each of these participants, over this log, has the base that these begins of rounds leave it
+-- Of these participants, which stand in the order of the topology, each has the base that these begins of rounds leave it over this log (`bases_in` of
+-- its index).
 abbrev pub ArePrunedIn : Script → List Entry → List RoundBegin → List Participant → Type 0
 ArePrunedIn script log begins nodes = AreBases (bases_in script log begins) nodes
 

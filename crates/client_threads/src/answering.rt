@@ -52,9 +52,9 @@ fn refused(refusal: SubmitRefusal) -> Result<SubmitResult, AllocError>
     }
 }
 
-/// Hands in the submission, which has to be of the client's participant. The result has the place of the request that was sent, or why none was. After
-/// a request was sent the client asks once what became of it, which isn't told. An Err is want of memory, at either step, so the request may have been
-/// sent. `rt` is what the thread waits by at the locks.
+/// Hands in the submission, which has to be of the client's participant, and may name only parties for which somebody confirms. The result has the
+/// place of the request that was sent, or why none was. After a request was sent the client asks once what became of it, which isn't told. An Err is
+/// want of memory, at either step, so the request may have been sent. `rt` is what the thread waits by at the locks.
 pub fn answer<'r, S: Session, R: Wait>(
     rt: &R,
     shared: &Shared<'r, S>,

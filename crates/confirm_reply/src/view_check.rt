@@ -37,9 +37,9 @@ pub fn put_together(alloc: Global, input: &CheckInput<'_>) -> Result<ActionNodeL
     }
 }
 
-/// A participant's verdict on the view with this path. In this order are tried: whether anything is opened (else the fixed reason), whether the view is
-/// (ViewMissing), whom the request is from (WrongSender), how the view is split (WrongCommon), and nine reasons, each over the core, with the first
-/// action that shows it. The choices that `natives` has are asked of them in place of the contract language.
+/// A participant's verdict on the view with this path, by what it was told of the request and knows of contracts (`input`). In this order are tried:
+/// whether anything is opened (else the fixed reason), whether the view is (ViewMissing), whom the request is from (WrongSender), how the view is split
+/// (WrongCommon), and nine reasons, each over the core. Choices of `natives` are asked in place of the contract language. Err is want of memory.
 pub fn check_view(
     alloc: Global,
     natives: &NativeList,

@@ -21,7 +21,8 @@ pub record IsTold (request : Request) (told : ToldTree) : Type 0 where
   pub narrow : IsNarrow told.tree.views
   pub tells : informee_tree_of told.tree ≡ Ok told.roles
 
--- the views of a forest, each with its path and before those below it
+-- The views of a forest, in which each stands as its informees and its confirmers (`Sets`): in one list, each with these and with its path, before
+-- those below it.
 abbrev pub listed_views : Forest Sets → List ViewRoles
 listed_views views = map (λ (view : Path × Sets). view_roles view.0 view.1) (preorder (paths_from [] 0 views))
 

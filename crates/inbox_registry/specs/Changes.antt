@@ -73,7 +73,8 @@ abbrev pub placed_below : (ℕ → Bool) → (ℕ → List Act) → ℕ → List
 placed_below keeps f zero = []
 placed_below keeps f (suc k) = placed_below keeps f k ++ (if keeps k then map (at_place k) (f k) else [])
 
--- the authentic opened actions of the requests that aren't decided over the whole inbox, in order of place; a store's holds are theirs
+-- The authentic opened actions of the requests that aren't decided over the whole inbox, in order of place. The holds of a store that follows the inbox
+-- are those of the Creates and consuming Exercises among them.
 abbrev pub pending_changes : Reading → Params → List Item → List Placed
 pending_changes reading params items =
     placed_below (λ m. not (is_decided_in params items m (length items))) (authentic_at reading items) (length items)

@@ -22,8 +22,8 @@ fn expire_one(store: &mut Store, tracker: &mut Tracker, place: u64, time: u64)
     tracker.settle(place, Outcome::Expired);
 }
 
-/// Lets each undecided request expire whose decision time is before `time`, in microseconds, and releases its holds. Decision times have to rise with
-/// places (`InStep`), so that only these requests are walked.
+/// Lets each undecided request expire whose decision time is before `time`, in microseconds, and releases its holds. The places of the requests have to
+/// rise and their decision times mustn't fall (`InStep`), since the walk ends at the first undecided request that isn't late.
 pub fn pass_time(store: &mut Store, tracker: &mut Tracker, time: u64)
     requires { InStep tracker.old.pairs }
     ensures pairs { tracker.new.pairs ≡ expired time tracker.old.pairs }

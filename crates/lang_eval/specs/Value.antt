@@ -1,5 +1,6 @@
--- The value of an expression, or its first fault from the left. Operands of another kind than their operator's, which no checked
--- expression has, give Unit (a fault is for what well-typed expressions may run into).
+-- The value of an expression, or its first fault from the left. Of operands of another kind than their operator's, which no checked expression has,
+-- most operators give Unit; but Both and Either give an operand's value as it is, Cond its last operand where its test is no Bool, and SetOf leaves
+-- them out. A fault is for what well-typed expressions may run into.
 use Rattle.std.specs.Prelude.{ℕ, ◌^◌, Bool, true, false, not, cond, List, [], ◌∷◌, ◌++◌, length, ℤ, pos, negsuc, ◌+ℤ◌, ◌-ℤ◌, ◌*ℤ◌, nat_lt}
 use Rattle.std.specs.Prelude.{nat_le, int_lt, int_le, Option, Some, None, Result, Ok, Err}
 use Rattle.ledger_terms.specs.declared.value.Value.{Value}

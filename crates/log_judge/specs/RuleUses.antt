@@ -16,7 +16,7 @@ use Rattle.trigger_rules.specs.declared.rule.Rule as rules
 abbrev pub rule_of : rules.Rule → Rule
 rule_of rule = record { participant = rule.participant; party = rule.party; has_command = is_numbered rule.name }
 
--- A rule, and the ids of the contracts that its requests have exercised, each once.
+-- A rule, and the ids of the contracts that its requests have exercised for it (`exercised_for`), each once.
 pub record Used : Type 0 where
   pub rule : rules.Rule
   pub contracts : List Hash

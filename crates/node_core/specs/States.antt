@@ -91,8 +91,9 @@ begun_again topology packages state =
 abbrev pub is_done_from : (base : ℕ) → NodeState → ℕ → Bool
 is_done_from base node k = (nat_le base k && has_place node.claimed k) && not (has_place node.unfinished k)
 
--- The state of a participant: what its inbox left at its base, the inbox from there on, its outbox, and by rising places the requests from
--- there on whose job is done. To these it owes verdicts, and from the base on responses wait to these alone. No two wait to one request.
+-- The state of a participant: which one it is, whether it is paused, its base with the time of the entry before that, what its inbox left there, the
+-- inbox from there on, each raw item of which may come behind those before it (`came`), its outbox, and by rising places the requests from there on
+-- whose job is done. To these it owes verdicts, and from the base on responses wait to these alone, one to each.
 pub record IsStateOf (p : Participant) (state : State) : Type 0 where
   pub me : state.me ≡ p.me
   pub base : state.base ≡ p.base

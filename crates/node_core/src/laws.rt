@@ -106,9 +106,9 @@ pub fn pruned_participants_are_pruned_again()
         → IsPrunedTo whole (pruned_at b next p) }
 {}
 
-/// A participant that begins again from another one's state has that one's base and items. So it answers as that one does and, from the base on, as one
-/// with the whole inbox. Where the other has nothing unfinished and owes what waits, it claims and sends next what that one would with the whole inbox.
-/// One that puts back an unfinished job, to which no response waits, has the same state as before.
+/// A participant that begins again from p's state keeps the whole inbox that p keeps, pruned to its base, and owes verdicts to each request to which a
+/// response waits (`pruned`); it has p's items, and has read the entries that p has read. Where p has no unfinished job and owes verdicts wherever a
+/// response waits, it claims and sends next what p with the whole inbox would.
 pub fn restarted_participants_are_pruned()
     ensures pruned { (whole : List Item) (p : Participant) (state : State)
         → IsPrunedTo whole p

@@ -39,7 +39,8 @@ abbrev pub CreateOnly : (Hash → Bool) → List Act → Type 0
 CreateOnly test [] = Unit {0}
 CreateOnly test (act ∷ actions) = (is_create act.action ≡ true → test (id_of act.action) ≡ true) × CreateOnly test actions
 
--- All that is written into a store up to place n: the Creates of the contracts that a start left active, and the actions of approved requests below n.
+-- All that is written into a store of what came below place n: the Creates of the contracts that a start left active, and behind them the authentic
+-- opened actions of the approved requests below n, each with its request's place, in order.
 abbrev pub begun_below : Reading → Start → List Item → ℕ → List Placed
 begun_below reading start items n = map creation_of start.active ++ placed_below reading items n
 

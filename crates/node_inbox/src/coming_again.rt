@@ -48,8 +48,9 @@ fn offer_by(
     }
 }
 
-/// What the inbox of participant `me` keeps of a request that a state had, before it is put there. The envelope is read once more, without the
-/// mediator's tree beside it. `me` is there for the contract alone.
+/// What the inbox of participant `me` will keep of a request, by what a state had of it, which has to be that of a framed request with `me` among its
+/// recipients (`IsOfRequest`). The envelope is read once more, the changes are worked out of what it offers, and the facts are still blank; beside it
+/// are the ids of the contracts that it will hold. Err is want of memory; `me` is there for the contract alone.
 pub fn coming_again(
     alloc: Global,
     setup: &Setup,

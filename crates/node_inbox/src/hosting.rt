@@ -94,8 +94,8 @@ impl<'i> Hosting<'i> {
         has_hosted_stakeholder(alloc, self.setup, self.me, &known.instance)
     }
 
-    /// Whether the participant offers a contract, which was created at the place `created_at`, to its submissions: the contract isn't gone, and has a
-    /// stakeholder that it hosts. The place has no effect on that.
+    /// Whether an active contract, created at the place `created_at`, is one that the participant offers to its submissions: it isn't gone, and has a
+    /// stakeholder that the participant hosts. That it isn't consumed is for the caller to see to, and the place has no effect.
     pub fn offers(&self, alloc: Global, created_at: u64, known: &Known) -> Result<bool, AllocError>
         ensures { IfOk result (λ b. b ≡ offers self.now (active_row_of created_at known.now)) }
     {

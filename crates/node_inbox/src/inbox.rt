@@ -113,8 +113,9 @@ impl<'s> Inbox<'s> {
         }
     }
 
-    /// An inbox of participant `me`, which has forgotten all that it read below a base but what the beginning says that it left there. Its
-    /// cursor is the base.
+    /// An inbox of participant `me`, which has forgotten all that it read below a base but what the beginning says that it left there; its cursor is
+    /// the base. The beginning has to be one that an inbox may have (`IsBeginning`): its active contracts were created below the base, stand in order
+    /// of their places, each once, and none of them is gone. Err is want of memory.
     pub fn begin_at(
         alloc: Global,
         setup: &'s Setup,

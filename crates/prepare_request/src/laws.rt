@@ -41,7 +41,9 @@ pub fn prepared_requests_are_wanted()
         → prepared topology packages me known what now ≡ Ok request }
 {}
 
-/// A submission is refused only for the cause that its fault says.
+/// Where `prepared` gives a fault for a submission, the cause that the fault says is there: the participant doesn't confirm for a requester
+/// (NotHosted), the commands or the prepared tree stop with it (Command), or the wanted transaction can't be split into views (Split). It gives no
+/// other fault.
 pub fn faults_have_causes()
     ensures { (topology : Topology) (packages : Packages) (me : ℕ) (known : List Known) (what : Submission) (now : ℕ) (fault : SubmitFault)
         → prepared topology packages me known what now ≡ Err fault

@@ -116,7 +116,7 @@ fn draw_name(sheet: &mut Sheet, x: u32, name: &str, width: u32) -> Result<(), Al
     sheet.words(&label, name, letters)
 }
 
-/// The label of a text that begins at a point, in the tone of main text.
+/// Where a line of text stands and how it looks, in the tone of the text: it begins at the point `at`, which is at the height of its foot.
 pub fn label(at: Point, font: Font) -> Label {
     Label {
         at,
@@ -126,7 +126,7 @@ pub fn label(at: Point, font: Font) -> Label {
     }
 }
 
-/// The label of a text that begins at a point, in the tone of less important text.
+/// Where a line of text stands and how it looks, in the tone of less important text: it begins at the point `at`, which is at the height of its foot.
 pub fn quiet(at: Point, font: Font) -> Label {
     Label {
         at,

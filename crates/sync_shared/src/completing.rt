@@ -93,8 +93,9 @@ fn complete_at<'r, S: Session, R: Wait, const I: u8>(
     Ok(completion)
 }
 
-/// What became of the ticket's request, by what the client's participant has read: this first reads at least what the client has seen, and past the
-/// request. The client has then seen as much; after want of memory it has seen no more than before. `rt` is what the thread waits by at the locks.
+/// What became of the ticket's request, by what the client's participant has read. The request mustn't stand below that participant's base, below which
+/// requests are forgotten. The participant, paused or not, first reads at least what the client has seen, and past the request; the client has then
+/// seen all that it has read. `rt` is what the thread waits by at the locks.
 pub fn complete<'r, S: Session, R: Wait>(
     rt: &R,
     log: &Mutex<LockedLog<'r, S>>,

@@ -117,8 +117,9 @@ impl<'r, S: Session> Shared<'r, S> {
         }
     }
 
-    /// Begins a round with these rules. With `has_tick` a Tick of its time is appended, and counted with the share `home`. `known` is the slip of some
-    /// entry of the log, None for none, and becomes the Tick's. After want of memory all is as before.
+    /// Begins a round with what it says: its time, who is paused and whether verdicts are held. With `has_tick` a Tick of its time is appended, and
+    /// counted with the share `home`, which has to hold at least one of the parts of the book. `known` is the slip of some entry of the log, None for
+    /// none; it becomes the Tick's, and without a Tick it stays. After want of memory all is as before.
     pub fn begin(
         &mut self,
         home: &mut Share<S>,

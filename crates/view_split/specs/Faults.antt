@@ -16,7 +16,8 @@ use Rattle.view_split.specs.declared.views.Views.{Views}
 abbrev pub kept_path : List ℕ → List ℕ
 kept_path path = map (λ step. step % 2 ^ 16) path
 
--- whether this action, given with its path, has no roles in these packages
+-- Whether this action, given with its path, has no roles in these packages: its contract's template or its choice isn't there, a field or an argument
+-- has another kind than declared, its parties have no value, or nobody signs. The path isn't looked at.
 abbrev pub is_roleless : Packages → List ℕ × Act → Bool
 is_roleless packages placed = not (has_roles packages (placed.1).action)
 

@@ -16,7 +16,9 @@ use Rattle.node_core.specs.OverLog.{HasInbox, inbox_over, state_over}
 abbrev pub world_with : (now : ℕ) → MediatorState → List NodeValue → Sequenced → World
 world_with now mediator nodes sequencer = record { log = sequencer.list; now = now; mediator = mediator; nodes = map (state_over sequencer.list) nodes }
 
--- each node is the machine's participant with the index of its place in the list, and has read a beginning of the log; the machine is the sequencer's
+-- Each node is the machine's participant with the index of its place in the list. It keeps its inbox over a beginning of the log, pruned to its base,
+-- and owes verdicts to each request to which a response waits (`HasInbox`). The machine has the sequencer's times and capacity and counts the same
+-- requests as framed (`IsFor`), and its reading has what every reading has to have.
 pub record AreNodesOf (m : Machine) (nodes : List NodeValue) (sequencer : Sequenced) : Type 0 where
   pub is_reading : IsReading m.reading
   pub is_for : IsFor m sequencer
